@@ -1,0 +1,12 @@
+use crate::{Bytes, DomId, Items};
+
+/// A message as its receiver takes it: the true domain of the sender, the port that the sender named, the type and the body.
+#[derive(Debug, Drop)]
+pub struct Message {
+    pub src: DomId,
+    pub port: u32,
+    pub kind: u32,
+    pub body: Bytes,
+}
+
+pub type MessageList = Items<Message>;
