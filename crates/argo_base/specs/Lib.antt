@@ -1,2 +1,7 @@
 pub mod Errno
+pub mod Iovs
+pub mod Layout
+pub mod Match
+pub mod Pieces
+pub mod Slots
 pub mod Splice

@@ -1,5 +1,3 @@
-ghost use Rattle.std.specs.Prelude.{◌≡◌, ◌+◌, ◌*◌, ◌-◌, ◌<◌, ◌≤◌, min};
-
 /// The bytes of a page.
 pub const PAGE_BYTES: u32 = 4096;
 

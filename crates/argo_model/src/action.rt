@@ -1,0 +1,91 @@
+use argo_base::{Bytes, DomId, Errno, PageList};
+
+/// What a sender's body came to when it was gathered.
+#[derive(Debug, Drop)]
+pub enum Load {
+    Body(Bytes),
+    /// The gather of so many bytes met a page that is not there.
+    Faulted(u32),
+    /// The buffers were refused before the gather.
+    Refused(Errno),
+}
+
+/// One atomic step of a virtual CPU: a fetch or a store inside one page, or the one deciding act of a hypercall.
+#[derive(Debug, Drop)]
+pub enum Action {
+    Rest,
+    Fetch {
+        page: u64,
+        off: u32,
+        n: u32,
+    },
+    Put {
+        page: u64,
+        off: u32,
+        bytes: Bytes,
+    },
+    Register {
+        port: u32,
+        partner: DomId,
+        len: u32,
+        pages: PageList,
+        fail_exist: bool,
+    },
+    Unregister {
+        port: u32,
+        partner: DomId,
+    },
+    Deliver {
+        port: u32,
+        to: DomId,
+        to_port: u32,
+        kind: u32,
+        load: Load,
+    },
+    /// Ends the notices that fit on the caller's ring with the least serial above `after`.
+    Sweep {
+        after: u64,
+    },
+    Query {
+        to: DomId,
+        to_port: u32,
+        need: u32,
+    },
+    Look,
+    Destroy {
+        dom: DomId,
+    },
+    Reset {
+        dom: DomId,
+    },
+    Create {
+        dom: DomId,
+    },
+}
+
+/// What notify answers of one ring: `flags`, `space_required` and `max_message_size` of `struct xen_argo_ring_data_ent`.
+#[derive(Clone, Copy, Debug, PartialEq, Eq)]
+pub struct Answer {
+    pub flags: u16,
+    pub need: u32,
+    pub most: u32,
+}
+
+/// What an action came to.
+#[derive(Debug, Drop)]
+pub enum Outcome {
+    Done,
+    Bytes(Bytes),
+    Fault,
+    Refused(Errno),
+    /// A message with a body of so many bytes was accepted.
+    Accepted(u32),
+    /// The serial of the ring that was swept.
+    Swept(u64),
+    NoMore,
+    Answer(Answer),
+    /// The flag as it was found.
+    Flag(bool),
+    /// The caller's domain is gone, or is of another generation than its section names.
+    Gone,
+}
