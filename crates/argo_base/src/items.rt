@@ -1,4 +1,4 @@
-ghost use Rattle.std.specs.Prelude.{◌≡◌, ◌+◌, ◌<◌, ◌≤◌, ◌↔◌, List, [], ◌∷◌, ◌++◌, length, IsTrue, Some, slice_get, IfOk, OnOk, OnErr};
+ghost use Rattle.std.specs.Prelude.{◌≡◌, ◌+◌, ◌<◌, ◌≤◌, ◌↔◌, List, [], ◌∷◌, ◌++◌, length, drop, IsTrue, Some, slice_get, IfOk, OnOk, OnErr};
 ghost use Rattle.argo_base.specs.Splice.{splice};
 
 use crate::NoMemory;
@@ -81,6 +81,23 @@ impl<T: Drop> Items<T> {
     {
         self.items.push(x)?;
         Ok(())
+    }
+
+    /// Drops the first `k` values. It takes no memory.
+    pub fn drop_first(&mut self, k: usize)
+        requires { k ≤ length self.old }
+        ensures { self.new ≡ drop k self.old }
+    {
+        let kept = self.items.len() - k;
+        self.items.rotate_left(k);
+        self.items.truncate(kept);
+    }
+
+    /// Drops all values. It takes no memory.
+    pub fn clear(&mut self)
+        ensures { self.new ≡ [] }
+    {
+        self.items.clear();
     }
 }
 

@@ -1,5 +1,10 @@
 pub mod WorldLaws
+pub mod PutLaws
 pub mod RangeLaws
+pub mod RingLaws
 pub mod SeatLaws
 pub mod LineLaws
 pub mod WorkedMessages
+pub mod BookLaws
+pub mod MachineLaws
+pub mod SeatsLaws

@@ -1,12 +1,13 @@
 -- Laws of the lines of sections.
-use Rattle.std.proofs.Common.{◌≡◌, ℕ, zero, suc, Bool, true, false, List, [], ◌∷◌, IsTrue, ◌&&◌, Some, slice_get, refl, sym, ap, ◌∙◌, subst}
+use Rattle.std.proofs.Common.{◌≡◌, ℕ, zero, suc, Bool, true, false, List, [], ◌∷◌, IsTrue, ◌&&◌, Some, slice_get, refl, sym, ap, ◌∙◌, subst, ◌≤◌, nat_le, length, sum_by, arith}
+use Rattle.std.proofs.lemmas.Bool.Decides.{nat_tests}
 use Rattle.std.proofs.lemmas.Bool.{false≢true}
 use Rattle.std.specs.List.{list_all}
 use Rattle.argo_model.specs.declared.line.Line.{Line}
 use Rattle.argo_model.specs.declared.line.Line.TheVariants.{Store, Load, Op, Await, Recv, Destroy, Reset, Create}
 use Rattle.argo_model.specs.declared.scripts.Actor.{Actor}
 use Rattle.argo_model.specs.declared.scripts.Actor.TheVariants.{Vcpu, Control}
-use Rattle.argo_model.specs.Script.{is_vcpu_line, is_control_line, is_lawful_for, is_generation}
+use Rattle.argo_model.specs.Script.{is_vcpu_line, is_control_line, is_lawful_for, is_generation, is_lawful, turns_of, Script}
 use Rattle.argo_model.specs.Built.{is_built_line}
 
 both : (x y : Bool) → IsTrue (x && y) → IsTrue x × IsTrue y
@@ -37,3 +38,18 @@ pub vcpu_line_from_built : (actor : Actor) (lines : List Line) (i : ℕ) (line :
 vcpu_line_from_built (Vcpu d g) lines i line here lawful built =
     list_all-at is_vcpu_line lines i line here (both (is_generation g) (list_all is_vcpu_line lines) lawful).1
 vcpu_line_from_built Control lines i line here lawful built = not_control line built (list_all-at is_control_line lines i line here lawful)
+
+le_from : (m n : ℕ) → IsTrue (nat_le m n) → m ≤ n
+le_from m n h = grind (arith, nat_tests)
+
+-- how much a lawful script has at most
+pub lawful_bounds : (s : Script) → IsTrue (is_lawful s)
+  → (length s.sections ≤ 64) × (sum_by (λ x. length x.lines) s.sections ≤ 8192) × (sum_by (λ x. sum_by turns_of x.lines) s.sections ≤ 1048576)
+lawful_bounds s lawful =
+    let a = (both _ _ lawful).0 in
+    let b = (both _ _ a).0 in
+    let c = (both _ _ b).1 in
+    let d = both _ _ c in
+    let e = both _ _ d.0 in
+    let f = both _ _ e.0 in
+    (le_from (length s.sections) 64 f.0, le_from (sum_by (λ x. length x.lines) s.sections) 8192 e.1, le_from (sum_by (λ x. sum_by turns_of x.lines) s.sections) 1048576 d.1)

@@ -99,10 +99,11 @@ line_goes_on s before after line rest a o phase seat lines does acts fed at_phas
         at_line = let P : List Line → Type 0 = λ ls. IsAtLine ls phase in subst P (sym lines) at_phase;
       };
       nearer = omega arith;
+      done = tt;
       turns = λ p st. (
         turn_to p rest a (record { outcome = o; state = after }) (Do next.0),
         turned s before after line rest a o lines does acts p st (Do next.0) (fed [] ∙ next.1),
-        refl, refl, refl,
+        ap (λ n. n + 1) st.done, refl, refl, refl,
         record {
           actor = st.actor; done = st.done; left = st.left;
           outcomes = let P : List Line → Type 0 = λ ls. StandsFor s.part.actor ls phase (p.outcomes ++ o ∷ []) in
@@ -137,10 +138,11 @@ line_is_done s before after line rest a o reply phase seat more lines later does
       still = refl;
       seat = record { built = seat.built; few = seat.few; done = omega arith; at_line = begins_at s.part.actor _ phase begins };
       nearer = rw later_drop (omega arith);
+      done = refl;
       turns = λ p st. (
         turn_to p rest a (record { outcome = o; state = after }) (Say reply),
         turned s before after line rest a o lines does acts p st (Say reply) (fed []),
-        refl, refl, refl,
+        ap (λ n. n + 1) st.done, refl, refl, refl,
         record {
           actor = st.actor; done = ap (λ n. n + 1) st.done; left = later;
           outcomes = begins_for s.part.actor (drop (s.done + 1) s.part.lines) phase begins;

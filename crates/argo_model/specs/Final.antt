@@ -4,6 +4,7 @@ use Rattle.std.specs.List.{range_with_len}
 use Rattle.argo_base.specs.declared.ring_key.RingKey.{RingKey}
 use Rattle.argo_model.specs.declared.action.Outcome.{Outcome}
 use Rattle.argo_model.specs.declared.action.Outcome.TheVariants.{Done, Bytes, Fault, Refused, Accepted, Swept, NoMore, Answer, Flag, Gone}
+use Rattle.argo_model.specs.declared.reply.Reply.{Reply}
 use Rattle.argo_model.specs.declared.closing.Run.{Run}
 use Rattle.argo_model.specs.declared.closing.DoneLine.{DoneLine}
 use Rattle.argo_model.specs.declared.closing.Totals.{Totals}
@@ -42,6 +43,11 @@ done_at t = option_map (λ r. record { vcpu = t.vcpu; line = t.line; reply = r }
 abbrev pub done_of : List Step → List DoneLine
 done_of steps = filter_map done_at steps
 
+-- the line that is done with a step of a section, where its reply came
+abbrev pub done_lines : ℕ → ℕ → Option Reply → List DoneLine
+done_lines v line None = []
+done_lines v line (Some r) = record { vcpu = v; line = line; reply = r } ∷ []
+
 -- the size of a body that was accepted
 abbrev pub accepted_size : Outcome → Option ℕ
 accepted_size (Accepted n) = Some n
@@ -64,6 +70,19 @@ totals_of steps v =
       bytes = sum_by (λ t. if t.vcpu == v then size_or_none (accepted_size t.outcome) else 0) steps;
     }
 
+-- the totals before the first step
+abbrev pub no_steps : Totals
+no_steps = record { steps = 0; accepted = 0; bytes = 0 }
+
+-- the totals after one step more, with this outcome
+abbrev pub totals_after : Totals → Outcome → Totals
+totals_after t o =
+    record {
+      steps = t.steps + 1;
+      accepted = t.accepted + (if is_accepted (accepted_size o) then 1 else 0);
+      bytes = t.bytes + size_or_none (accepted_size o);
+    }
+
 -- the bytes of a ring: those of its pages, one page after another
 abbrev pub ring_bytes : List ℕ → List ℕ → List ℕ
 ring_bytes memory pages = flat_map (λ page. take 4096 (drop (4096 * page) memory)) pages
@@ -72,11 +91,14 @@ ring_bytes memory pages = flat_map (λ page. take 4096 (drop (4096 * page) memor
 abbrev pub slots_of : List ℕ → Ring → List ℕ
 slots_of memory r = take r.len (drop 64 (ring_bytes memory r.pages))
 
+abbrev pub notice_line_of : ℕ × ℕ → NoticeLine
+notice_line_of n = record { dom = n.0; size = n.1 }
+
 abbrev pub final_ring : List ℕ → RingKey × Ring → FinalRing
 final_ring memory e =
     record {
       key = e.0; len = e.1.len; tx = e.1.tx; clean = e.1.clean; untaken = e.1.untaken;
-      notices = map (λ n. record { dom = n.0; size = n.1 }) e.1.notices;
+      notices = map notice_line_of e.1.notices;
       slots = slots_of memory e.1;
     }
 

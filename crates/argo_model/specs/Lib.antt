@@ -28,9 +28,13 @@ pub mod RingBytes
 pub mod Run
 pub mod Script
 pub mod Seat
+pub mod Sound
 pub mod Starts
 pub mod State
 pub mod Steps
 pub mod Sweep
 pub mod Told
 pub mod World
+pub mod Kept
+pub mod Seats
+pub mod MachineView

@@ -1,10 +1,9 @@
 -- The text of a report, its summary and its replies: each line as its words.
-use Rattle.std.specs.Prelude.{ℕ, ◌+◌, ◌*◌, ◌/◌, ◌%◌, Bool, true, false, ◌==◌, if◌then◌else◌, List, [], ◌∷◌, ◌++◌, length, map, take, drop, codes, decimal, flat_map}
+use Rattle.std.specs.Prelude.{ℕ, ◌*◌, ◌/◌, ◌%◌, Bool, false, ◌==◌, if◌then◌else◌, List, [], ◌∷◌, ◌++◌, length, map, take, drop, codes, decimal, flat_map}
 use Rattle.std.specs.List.{join_with_byte, list_all, range_with_len, enumerate_from}
 use Rattle.std.specs.Int.{div_ceil}
 use Rattle.std.specs.Fmt.{digit_glyph, signed_decimal}
 use Rattle.argo_base.specs.declared.message.Message.{Message}
-use Rattle.argo_base.specs.declared.ring_key.RingKey.{RingKey}
 use Rattle.argo_model.specs.declared.reply.Reply.{Reply}
 use Rattle.argo_model.specs.declared.reply.Reply.TheVariants.{Stored, Hex, Number, Signal, NoSignal, Msg, Empty, Bad, Fault, Gone}
 use Rattle.argo_model.specs.declared.closing.Run.{Run}
@@ -86,12 +85,12 @@ partner_word partner = if partner == 0x7FF4 then codes "any" else decimal partne
 abbrev pub clean_word : Bool → List ℕ
 clean_word clean = if clean then codes "clean" else codes "dirty"
 
--- a ring with its owner
+-- a ring of that domain
 abbrev pub ring_line : ℕ → FinalRing → List ℕ
 ring_line owner r =
     line (
-      codes "ring" ∷ decimal owner ∷ decimal r.key.port ∷ partner_word r.key.partner ∷ codes "len" ∷ decimal r.len
-      ∷ codes "tx" ∷ decimal r.tx ∷ clean_word r.clean ∷ [])
+    codes "ring" ∷ decimal owner ∷ decimal r.key.port ∷ partner_word r.key.partner ∷ codes "len" ∷ decimal r.len
+    ∷ codes "tx" ∷ decimal r.tx ∷ clean_word r.clean ∷ [])
 
 -- a message that waits for its receiver, with the size of its body
 abbrev pub message_line : Message → List ℕ
@@ -132,8 +131,8 @@ domain_text version d = domain_line version d ++ flat_map (ring_text d.id) d.rin
 abbrev pub totals_line : ℕ × Totals → List ℕ
 totals_line e =
     line (
-      codes "vcpu" ∷ decimal e.0 ∷ codes "steps" ∷ decimal e.1.steps ∷ codes "accepted" ∷ decimal e.1.accepted
-      ∷ codes "bytes" ∷ decimal e.1.bytes ∷ [])
+    codes "vcpu" ∷ decimal e.0 ∷ codes "steps" ∷ decimal e.1.steps ∷ codes "accepted" ∷ decimal e.1.accepted
+    ∷ codes "bytes" ∷ decimal e.1.bytes ∷ [])
 
 -- the sections by their numbers, which are their places
 abbrev pub totals_lines : List Totals → List ℕ

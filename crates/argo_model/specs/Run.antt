@@ -40,8 +40,9 @@ at_first_line s = record { actor = s.actor; done = 0; left = s.lines; outcomes =
 abbrev pub start : Script → Course
 start s = record { state = start_state s.domains; sections = map at_first_line s.sections; steps = [] }
 
--- what one step of a section comes to
+-- what one step of a section comes to: the place of its line from 1, and the rest
 pub record Turn : Type 0 where
+  pub line : ℕ
   pub action : Action
   pub outcome : Outcome
   pub reply : Option Reply
@@ -52,12 +53,12 @@ pub record Turn : Type 0 where
 abbrev pub turn_to : Progress → List Line → Action → Told → Next → Turn
 turn_to p rest a t (Do next) =
     record {
-      action = a; outcome = t.outcome; reply = None; state = t.state;
+      line = p.done + 1; action = a; outcome = t.outcome; reply = None; state = t.state;
       progress = record p { outcomes = p.outcomes ++ t.outcome ∷ [] };
     }
 turn_to p rest a t (Say reply) =
     record {
-      action = a; outcome = t.outcome; reply = Some reply; state = t.state;
+      line = p.done + 1; action = a; outcome = t.outcome; reply = Some reply; state = t.state;
       progress = record p { done = p.done + 1; left = rest; outcomes = [] };
     }
 
@@ -83,36 +84,36 @@ after_turn c v (Some t) =
     record {
       state = t.state;
       sections = slice_set c.sections v t.progress;
-      steps = c.steps ++ record {
-        vcpu = v; line = line_of (slice_get c.sections v); action = t.action; outcome = t.outcome; reply = t.reply
-      } ∷ [];
+      steps = c.steps ++ record { vcpu = v; line = t.line; action = t.action; outcome = t.outcome; reply = t.reply } ∷ [];
     }
-  where
-  -- the place of the line at which the section stands
-  line_of : Option Progress → ℕ
-  line_of None = 0
-  line_of (Some p) = p.done + 1
+
+-- the turn that section v takes next, where it has a line left
+abbrev pub next_turn : Course → ℕ → Option Turn
+next_turn c v = option_and_then (turn c.state) (slice_get c.sections v)
 
 -- one step of section v
 abbrev pub step : Course → ℕ → Course
-step c v = after_turn c v (option_and_then (turn c.state) (slice_get c.sections v))
+step c v = after_turn c v (next_turn c v)
 
 -- a whole schedule, one step after another
 abbrev pub run : Script → List ℕ → Course
 run s schedule = fold step (start s) schedule
 
+-- the section has a line left
+abbrev pub has_lines : List Line → Bool
+has_lines [] = false
+has_lines (line ∷ lines) = true
+
 abbrev pub is_finished : Progress → Bool
-is_finished p = is_nil p.left where
-  is_nil : List Line → Bool
-  is_nil [] = true
-  is_nil (line ∷ lines) = false
+is_finished p = not (has_lines p.left)
 
 -- section v has a line left
+abbrev pub is_unfinished : Option Progress → Bool
+is_unfinished None = false
+is_unfinished (Some p) = has_lines p.left
+
 abbrev pub is_open : Course → ℕ → Bool
-is_open c v = open_at (slice_get c.sections v) where
-  open_at : Option Progress → Bool
-  open_at None = false
-  open_at (Some p) = not (is_finished p)
+is_open c v = is_unfinished (slice_get c.sections v)
 
 -- each number of the schedule made a step, and in the end every section is finished
 pub record IsComplete (s : Script) (schedule : List ℕ) : Type 0 where

@@ -1,5 +1,5 @@
 -- How a section stands, as the machine keeps it and as the run has it.
-use Rattle.std.specs.Prelude.{◌≡◌, ℕ, ◌+◌, ◌<◌, ◌≤◌, List, [], ◌∷◌, ◌++◌, length, drop, sum_by, IsTrue, Option, Some}
+use Rattle.std.specs.Prelude.{◌≡◌, ℕ, ◌+◌, ◌<◌, ◌≤◌, List, [], ◌∷◌, ◌++◌, length, drop, sum_by, IsTrue, Option, Some, IfSome}
 use Rattle.argo_model.specs.declared.seat.Seat.{Seat}
 use Rattle.argo_model.specs.declared.phase.Phase.{Phase}
 use Rattle.argo_model.specs.declared.line.Line.{Line}
@@ -49,7 +49,8 @@ pub record TakesTurn (old : Seat) (before : State) (outcome : Outcome) (reply : 
   pub still : new.part ≡ old.part
   pub seat : IsSeat new
   pub nearer : seat_left new < seat_left old
-  pub turns : (p : Progress) → Stands old p → (t : Turn) × (turn before p ≡ Some t) × (t.outcome ≡ outcome) × (t.reply ≡ reply) × (t.state ≡ after) × Stands new t.progress
+  pub done : IfSome reply (λ r. new.done ≡ old.done + 1)
+  pub turns : (p : Progress) → Stands old p → (t : Turn) × (turn before p ≡ Some t) × (t.line ≡ old.done + 1) × (t.outcome ≡ outcome) × (t.reply ≡ reply) × (t.state ≡ after) × Stands new t.progress
 
 -- the first of these lines begins at this phase
 abbrev pub Begins : Actor → List Line → Phase → Type 0

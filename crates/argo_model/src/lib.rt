@@ -7,15 +7,22 @@
 mod action;
 mod books;
 mod closing;
+mod copies;
 mod cursor;
 pub mod examples;
+mod finals;
 mod line;
+mod machine;
 mod memory;
 mod phase;
+mod puts;
 mod ranges;
 mod reply;
+mod ring_bytes;
 mod scripts;
 mod seat;
+mod seats;
+mod slots;
 mod state;
 mod world;
 
@@ -25,6 +32,7 @@ pub use closing::{
     NoticeLines, Run, Runs, TotalList, Totals,
 };
 pub use line::{Line, Lines};
+pub use machine::Machine;
 pub use reply::Reply;
 pub use scripts::{Actor, DomainLine, DomainLines, Part, Parts, Scripts};
 pub use state::{Domain, Live, NoticeMap, Ring, RingMap};

@@ -39,8 +39,9 @@ pub(crate) fn put(live: &mut Live, page: u64, off: u32, bytes: &[u8]) -> Outcome
     if !is_there(live.bytes.as_slice(), page) {
         return Outcome::Fault;
     }
-    live.bytes
-        .write(4096 * page as usize + off as usize, bytes);
+    live.rings
+        .after_put(live.bytes.as_slice(), page, off, bytes);
+    live.bytes.write(4096 * page as usize + off as usize, bytes);
     Outcome::Done
 }
 

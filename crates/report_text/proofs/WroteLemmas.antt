@@ -5,7 +5,7 @@ use Rattle.std.proofs.lemmas.List.{take_more, take_all, append-nil, get_or_defau
 use Rattle.std.proofs.lemmas.List.FromFn.{get_or-enumerate_from}
 use Rattle.std.proofs.lemmas.List.Concat.{flat_map-append}
 use Rattle.argo_outside.specs.Faults.{Rose}
-use Rattle.argo_outside.specs.Sink.{appended, CutShort}
+use Rattle.argo_outside.specs.Sink.{appended}
 use Rattle.argo_outside.proofs.OutsideLemmas.{appended_again, appended-nil, CutShort-before, CutShort-after}
 use Rattle.report_text.specs.declared.fault.WriteFault.{WriteFault}
 use Rattle.report_text.specs.Wrote.{Wrote}
@@ -46,7 +46,7 @@ module _ {K : Type 0} {written : K → Option (List ℕ)} {faults : K → ℕ} {
   Wrote-then {r = Err e} second = record {
     count = omega (arith, first.count, second.count);
     whole = tt;
-    cut_short = CutShort-after (written s) (written u) a b (subst (λ w. CutShort w (written u) b) first.whole second.cut_short);
+    cut_short = CutShort-after (written s) (written t) (written u) a b first.whole second.cut_short;
     failed = λ is. Rose-after _ _ _ first.count (second.failed is);
   }
 

@@ -17,7 +17,8 @@ pub enum Line<'a> {
     Done(&'a DoneLine),
     /// A domain, under the format of the script.
     Domain(u32, &'a FinalDomain),
-    Ring(&'a FinalRing),
+    /// A ring of that domain.
+    Ring(DomId, &'a FinalRing),
     Message(&'a Message),
     Notice(&'a NoticeLine),
     /// Slot bytes from that place on.
@@ -35,12 +36,12 @@ impl Line<'_> {
     {
         text.clear();
         match self {
-            Line::Opening(version) => write!(text, "argo report {version}\n"),
+            Line::Opening(version) => writeln!(text, "argo report {version}"),
             Line::SummaryOpening => text.push_str("argo summary 1\n"),
             Line::Schedule(runs) => push_schedule(text, runs),
             Line::Done(done) => push_done(text, done),
             Line::Domain(version, domain) => push_domain(text, *version, domain),
-            Line::Ring(ring) => push_ring(text, ring),
+            Line::Ring(owner, ring) => push_ring(text, *owner, ring),
             Line::Message(message) => push_message(text, message),
             Line::Notice(notice) => push_notice(text, notice),
             Line::Slots(at, row) => push_slots(text, *at, row),
@@ -51,7 +52,8 @@ impl Line<'_> {
 }
 
 fn push_schedule(text: &mut String, runs: &[Run]) -> Result<(), AllocError>
-    ensures { OnOk result (string_bytes text.new ≡ string_bytes text.old ++ schedule_line runs.now) }
+    ensures { OnOk result (string_bytes text.new
+        ≡ string_bytes text.old ++ schedule_line runs.now) }
 {
     text.push_str("schedule")?;
     for run in runs {
@@ -69,19 +71,16 @@ fn push_done(text: &mut String, done: &DoneLine) -> Result<(), AllocError>
 }
 
 fn push_domain(text: &mut String, version: u32, domain: &FinalDomain) -> Result<(), AllocError>
-    ensures { OnOk result (string_bytes text.new ≡ string_bytes text.old ++ domain_line version domain.now) }
+    ensures { OnOk result (string_bytes text.new
+        ≡ string_bytes text.old ++ domain_line version domain.now) }
 {
     let life = life_of(domain);
     let flag = flag_of(domain);
     let id = domain.id.0;
     if version == 2 {
-        write!(
-            text,
-            "domain {id} gen {} {life} {flag}\n",
-            domain.generation
-        )
+        writeln!(text, "domain {id} gen {} {life} {flag}", domain.generation)
     } else {
-        write!(text, "domain {id} {life} {flag}\n")
+        writeln!(text, "domain {id} {life} {flag}")
     }
 }
 
@@ -103,13 +102,14 @@ fn flag_of(domain: &FinalDomain) -> &'static str
     if domain.flag { "flag" } else { "clear" }
 }
 
-fn push_ring(text: &mut String, ring: &FinalRing) -> Result<(), AllocError>
-    ensures { OnOk result (string_bytes text.new ≡ string_bytes text.old ++ ring_line ring.now) }
+fn push_ring(text: &mut String, owner: DomId, ring: &FinalRing) -> Result<(), AllocError>
+    ensures { OnOk result (string_bytes text.new
+        ≡ string_bytes text.old ++ ring_line owner ring.now) }
 {
-    write!(text, "ring {} ", ring.key.port)?;
+    write!(text, "ring {} {} ", owner.0, ring.key.port)?;
     push_partner(text, ring.key.partner)?;
     let state = clean_of(ring);
-    write!(text, " len {} tx {} {state}\n", ring.len, ring.tx)
+    writeln!(text, " len {} tx {} {state}", ring.len, ring.tx)
 }
 
 fn push_partner(text: &mut String, partner: DomId) -> Result<(), AllocError>
@@ -129,21 +129,23 @@ fn clean_of(ring: &FinalRing) -> &'static str
 }
 
 fn push_message(text: &mut String, message: &Message) -> Result<(), AllocError>
-    ensures { OnOk result (string_bytes text.new ≡ string_bytes text.old ++ message_line message.now) }
+    ensures { OnOk result (string_bytes text.new
+        ≡ string_bytes text.old ++ message_line message.now) }
 {
     let size = message.body.len();
     let src = message.src.0;
-    write!(
+    writeln!(
         text,
-        "message {src} {} {} {size}\n",
+        "message {src} {} {} {size}",
         message.port, message.kind
     )
 }
 
 fn push_notice(text: &mut String, notice: &NoticeLine) -> Result<(), AllocError>
-    ensures { OnOk result (string_bytes text.new ≡ string_bytes text.old ++ notice_line notice.now) }
+    ensures { OnOk result (string_bytes text.new
+        ≡ string_bytes text.old ++ notice_line notice.now) }
 {
-    write!(text, "notice {} {}\n", notice.dom.0, notice.size)
+    writeln!(text, "notice {} {}", notice.dom.0, notice.size)
 }
 
 fn push_slots(text: &mut String, at: usize, row: &[u8]) -> Result<(), AllocError>
@@ -155,11 +157,12 @@ fn push_slots(text: &mut String, at: usize, row: &[u8]) -> Result<(), AllocError
 }
 
 fn push_totals(text: &mut String, vcpu: usize, totals: &Totals) -> Result<(), AllocError>
-    ensures { OnOk result (string_bytes text.new ≡ string_bytes text.old ++ totals_line (vcpu, totals.now)) }
+    ensures { OnOk result (string_bytes text.new
+        ≡ string_bytes text.old ++ totals_line (vcpu, totals.now)) }
 {
-    write!(
+    writeln!(
         text,
-        "vcpu {vcpu} steps {} accepted {} bytes {}\n",
+        "vcpu {vcpu} steps {} accepted {} bytes {}",
         totals.steps, totals.accepted, totals.bytes
     )
 }

@@ -8,7 +8,7 @@ ghost use Rattle.report_text.specs.Lines.{text_of};
 
 use crate::WriteFault;
 use crate::line::Line;
-use argo_base::Message;
+use argo_base::{DomId, Message};
 use argo_model::{DoneLine, Final, FinalDomain, FinalRing, NoticeLine, Totals};
 use argo_outside::{Sink, write_whole};
 use std::alloc::Global;
@@ -20,18 +20,20 @@ const ROW_BYTES: usize = 32;
 pub fn write_report<K: Sink>(alloc: Global, out: &mut K, f: &Final) -> Result<(), WriteFault>
     ensures count { K.faults out.old ≤ K.faults out.new }
     ensures whole { OnOk result (K.written out.new ≡ appended (K.written out.old) (report_of f.now)) }
-    ensures cut_short { OnErr result (CutShort (K.written out.old) (K.written out.new) (report_of f.now)) }
+    ensures cut_short { OnErr result
+        (CutShort (K.written out.old) (K.written out.new) (report_of f.now)) }
     ensures failed { IsErrOf result WriteFault.Sink → Rose (K.faults out.old) (K.faults out.new) }
 {
     let mut text = String::new(alloc);
-    write_lines(out, &mut text, f)
+    write_report_lines(out, &mut text, f)
 }
 
 /// Writes the summary of a report, in the same way.
 pub fn write_summary<K: Sink>(alloc: Global, out: &mut K, f: &Final) -> Result<(), WriteFault>
     ensures count { K.faults out.old ≤ K.faults out.new }
     ensures whole { OnOk result (K.written out.new ≡ appended (K.written out.old) (summary_of f.now)) }
-    ensures cut_short { OnErr result (CutShort (K.written out.old) (K.written out.new) (summary_of f.now)) }
+    ensures cut_short { OnErr result
+        (CutShort (K.written out.old) (K.written out.new) (summary_of f.now)) }
     ensures failed { IsErrOf result WriteFault.Sink → Rose (K.faults out.old) (K.faults out.new) }
 {
     let mut text = String::new(alloc);
@@ -45,7 +47,7 @@ fn write_summary_lines<K: Sink>(out: &mut K, text: &mut String, f: &Final) -> Re
     write_closing(out, text, f)
 }
 
-fn write_lines<K: Sink>(out: &mut K, text: &mut String, f: &Final) -> Result<(), WriteFault>
+fn write_report_lines<K: Sink>(out: &mut K, text: &mut String, f: &Final) -> Result<(), WriteFault>
     ensures { Wrote K.written K.faults out.old out.new (report_of f.now) result }
 {
     write_line(out, text, &Line::Opening(f.version))?;
@@ -78,7 +80,8 @@ fn write_domains<K: Sink>(
     version: u32,
     all: &[FinalDomain],
 ) -> Result<(), WriteFault>
-    ensures { Wrote K.written K.faults out.old out.new (flat_map (domain_text version) all.now) result }
+    ensures { Wrote K.written K.faults out.old out.new
+        (flat_map (domain_text version) all.now) result }
 {
     for domain in all {
         write_domain(out, text, version, domain)?;
@@ -95,22 +98,32 @@ fn write_domain<K: Sink>(
     ensures { Wrote K.written K.faults out.old out.new (domain_text version domain.now) result }
 {
     write_line(out, text, &Line::Domain(version, domain))?;
-    write_rings(out, text, domain.rings.as_slice())
+    write_rings(out, text, domain.id, domain.rings.as_slice())
 }
 
-fn write_rings<K: Sink>(out: &mut K, text: &mut String, all: &[FinalRing]) -> Result<(), WriteFault>
-    ensures { Wrote K.written K.faults out.old out.new (flat_map ring_text all.now) result }
+fn write_rings<K: Sink>(
+    out: &mut K,
+    text: &mut String,
+    owner: DomId,
+    all: &[FinalRing],
+) -> Result<(), WriteFault>
+    ensures { Wrote K.written K.faults out.old out.new (flat_map (ring_text owner) all.now) result }
 {
     for ring in all {
-        write_ring(out, text, ring)?;
+        write_ring(out, text, owner, ring)?;
     }
     Ok(())
 }
 
-fn write_ring<K: Sink>(out: &mut K, text: &mut String, ring: &FinalRing) -> Result<(), WriteFault>
-    ensures { Wrote K.written K.faults out.old out.new (ring_text ring.now) result }
+fn write_ring<K: Sink>(
+    out: &mut K,
+    text: &mut String,
+    owner: DomId,
+    ring: &FinalRing,
+) -> Result<(), WriteFault>
+    ensures { Wrote K.written K.faults out.old out.new (ring_text owner ring.now) result }
 {
-    write_line(out, text, &Line::Ring(ring))?;
+    write_line(out, text, &Line::Ring(owner, ring))?;
     write_untaken(out, text, ring)?;
     write_notices(out, text, ring.notices.as_slice())?;
     write_slots(out, text, ring.slots.as_slice())

@@ -1,5 +1,4 @@
-use Rattle.std.proofs.Common.{rules, ◌++◌}
-use Rattle.std.specs.List.{flat_map}
+use Rattle.std.proofs.Common.{rules}
 use Rattle.argo_model.specs.Report.{end_line}
 use Rattle.report_text.proofs.WroteLemmas.{Wrote-then, Wrote-stop}
 use Rattle.report_text.proofs.report.write_closing.Goals as goal

@@ -7,4 +7,4 @@ use Rattle.report_text.proofs.report.write_rings.Given as goal
 
 abbrev pub invariant-loop-ring : goal.invariant-loop-ring
 invariant-loop-ring g l =
-    Wrote g.K.Sink.written g.K.Sink.faults l.initial.out l.out (flat_map ring_text (take l.ring-index l.all)) (Ok tt)
+    Wrote g.K.Sink.written g.K.Sink.faults l.initial.out l.out (flat_map (ring_text l.owner) (take l.ring-index l.all)) (Ok tt)

@@ -2,7 +2,7 @@ use Rattle.std.proofs.Common.{rules, ◌++◌}
 use Rattle.std.specs.List.{flat_map}
 use Rattle.argo_model.specs.Report.{schedule_line, done_line, domain_text, closing_text}
 use Rattle.report_text.proofs.WroteLemmas.{Wrote-then, Wrote-stop}
-use Rattle.report_text.proofs.report.write_lines.Goals as goal
+use Rattle.report_text.proofs.report.write_report_lines.Goals as goal
 
 pub returns-in_err-write_line : goal.returns-in_err-write_line
 returns-in_err-write_line g c =
