@@ -2,6 +2,7 @@ pub mod WorldLaws
 pub mod PutLaws
 pub mod RangeLaws
 pub mod RingLaws
+pub mod RunLaws
 pub mod SeatLaws
 pub mod LineLaws
 pub mod WorkedMessages

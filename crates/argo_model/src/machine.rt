@@ -3,7 +3,7 @@ ghost use Rattle.std.specs.List.{list_all};
 ghost use Rattle.argo_model.specs.Built.{is_built};
 ghost use Rattle.argo_model.specs.Final.{final_of};
 ghost use Rattle.argo_model.specs.Machine.{AreSmall, OneStep};
-ghost use Rattle.argo_model.specs.Run.{run, is_open, is_finished};
+ghost use Rattle.argo_model.specs.Run.{run, is_open, is_finished, IsComplete};
 
 use crate::books::{fresh_totals, note_done, note_run, note_totals};
 use crate::seat::Seat;
@@ -84,7 +84,8 @@ impl Machine {
     /// What a report shows of the whole run. After want of memory the machine is lost.
     pub fn finish(self, alloc: Global) -> Result<Final, NoMemory>
         requires { IsTrue (list_all is_finished (run self.script self.schedule).sections) }
-        ensures { IfOk result (λ f. f ≡ final_of self.script self.schedule) }
+        ensures shown { IfOk result (λ f. f ≡ final_of self.script self.schedule) }
+        ensures complete { IfOk result (λ f. IsComplete self.script self.schedule) }
     {
         let Machine { version, kept, .. } = self;
         let Kept {

@@ -3,4 +3,10 @@ pub mod Lines
 pub mod Numbers
 pub mod Verbs
 pub mod Entries
+pub mod Reading
 pub mod Scripts
+pub mod FirstForms
+pub mod Examples
+pub mod Gives
+pub mod Reader
+pub mod Cause

@@ -1,11 +1,12 @@
 ghost use Rattle.std.specs.Prelude.{◌≡◌};
 ghost use Rattle.script_text.specs.Kind.{kind_text};
+ghost use Rattle.script_text.specs.declared.kind.Cause.TheVariants as causes;
+ghost use Rattle.script_text.specs.declared.kind.ReadFault.TheVariants as faults;
 
 use argo_base::NoMemory;
-use std::alloc::{AllocError, AllocFailed};
 
-/// What is wrong with a line of a script. Of several faults of a line it is the first in this order, but for `Word`,
-/// which also comes for a wrong `pages`, `off` or `gen`, once the words are as many as they should be.
+/// What is wrong with a line of a script. The fault of a script is that of its first line with one, and the fault of a line
+/// the first in this order, where a wrong `pages`, `off` or `gen` comes right after `Count`.
 #[derive(Clone, Copy, Debug, PartialEq, Eq)]
 pub enum ScriptKind {
     /// The script has more bytes than a script may have.
@@ -67,9 +68,33 @@ pub enum ReadFault {
     NoMemory,
 }
 
+impl From<NoMemory> for ReadFault {
+    ghost from_gives = { λ _ fault. fault ≡ faults.NoMemory };
+
+    fn from(_error: NoMemory) -> ReadFault {
+        ReadFault::NoMemory
+    }
+}
+
 /// Why a line was not read.
 #[derive(Clone, Copy, Debug, PartialEq, Eq)]
 pub(crate) enum Cause {
     Kind(ScriptKind),
     NoMemory,
+}
+
+impl From<ScriptKind> for Cause {
+    ghost from_gives = { λ kind cause. cause ≡ causes.Kind kind };
+
+    fn from(kind: ScriptKind) -> Cause {
+        Cause::Kind(kind)
+    }
+}
+
+impl From<NoMemory> for Cause {
+    ghost from_gives = { λ _ cause. cause ≡ causes.NoMemory };
+
+    fn from(_error: NoMemory) -> Cause {
+        Cause::NoMemory
+    }
 }

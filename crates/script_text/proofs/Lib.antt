@@ -1,0 +1,9 @@
+pub mod Computed
+pub mod FirstWord
+pub mod FirstLine
+pub mod Digits
+pub mod HexWords
+pub mod LastSection
+pub mod Adding
+pub mod Sound
+pub mod Lawful

@@ -1,0 +1,46 @@
+-- The picks of a seed: which section takes each step of a serial run.
+use Rattle.std.specs.Prelude.{◌≡◌, ℕ, zero, suc, ◌+◌, ◌*◌, ◌^◌, ◌/◌, ◌%◌, ◌<◌, ◌==◌, List, length, take, filter, slice_get, Option, if◌then◌else◌}
+use Rattle.std.specs.List.{range_with_len}
+use Rattle.argo_model.specs.declared.closing.Final.{Final}
+use Rattle.argo_model.specs.Script.{Script}
+use Rattle.argo_model.specs.Run.{Course, run, is_open, IsComplete}
+use Rattle.argo_model.specs.Final.{final_of}
+
+-- the generator's number after this one
+abbrev pub next_number : ℕ → ℕ
+next_number x = (x * 6364136223846793005 + 1442695040888963407) % 2 ^ 64
+
+-- the number after so many turns of the generator
+abbrev pub number_after : ℕ → ℕ → ℕ
+number_after seed zero = seed
+number_after seed (suc turns) = next_number (number_after seed turns)
+
+-- the place of the pick among so many open sections, from 0. The seed 0 always picks the first
+abbrev pub place_by : ℕ → ℕ → ℕ → ℕ
+place_by seed number count = if seed == 0 then 0 else number / 2 ^ 33 % count
+
+-- the sections that have a line left, in rising order
+abbrev pub open_sections : Course → List ℕ
+open_sections c = filter (is_open c) (range_with_len 0 (length c.sections))
+
+-- one of the open sections, by the generator's number
+abbrev pub pick_of : ℕ → ℕ → List ℕ → Option ℕ
+pick_of seed number vs = slice_get vs (place_by seed number (length vs))
+
+-- the pick after the picks so far: the generator turns before each
+abbrev pub next_pick : Script → ℕ → List ℕ → Option ℕ
+next_pick script seed before = pick_of seed (number_after seed (length before + 1)) (open_sections (run script before))
+
+-- each number of the schedule is the pick after those before it
+abbrev pub EachIsPick : Script → ℕ → List ℕ → Type 0
+EachIsPick script seed schedule =
+    (i : ℕ) → i < length schedule → slice_get schedule i ≡ next_pick script seed (take i schedule)
+
+-- a complete schedule, each of whose numbers is picked
+pub record ArePicks (script : Script) (seed : ℕ) (schedule : List ℕ) : Type 0 where
+  pub each : EachIsPick script seed schedule
+  pub complete : IsComplete script schedule
+
+-- what is shown of the run by the picks
+abbrev pub IsRunByPicks : Script → ℕ → Final → Type 0
+IsRunByPicks script seed shown = (schedule : List ℕ) × ArePicks script seed schedule × (shown ≡ final_of script schedule)
