@@ -1,0 +1,28 @@
+-- The text that is due for a seed and the bytes of a script.
+use Rattle.std.specs.Prelude.{◌≡◌, ℕ, List, ◌++◌, codes, decimal, Result, Ok, Err}
+use Rattle.argo_model.specs.Script.{Script}
+use Rattle.argo_model.specs.Final.{final_of}
+use Rattle.argo_model.specs.Report.{report_of}
+use Rattle.script_text.specs.declared.kind.ScriptFault.{ScriptFault}
+use Rattle.script_text.specs.Kind.{kind_text}
+use Rattle.script_text.specs.FirstForms.{built_of}
+use Rattle.serial_run.specs.Picks.{ArePicks}
+
+abbrev pub usage_text : List ℕ
+usage_text = codes "usage: argo_run threads | serial N | gen N\n"
+
+-- the line of a fault
+abbrev pub fault_text : ScriptFault → List ℕ
+fault_text f = codes "script line " ++ decimal f.line ++ codes ": " ++ kind_text f.kind ++ codes "\n"
+
+-- the report of the script under the picks of the seed
+abbrev pub IsReport : ℕ → Script → List ℕ → Type 0
+IsReport seed s text = (schedule : List ℕ) × ArePicks s seed schedule × (text ≡ report_of (final_of s schedule))
+
+-- what is due for what the bytes are: the report of a script, or the line of a fault
+abbrev pub IsDueFor : ℕ → Result Script ScriptFault → List ℕ → Type 0
+IsDueFor seed (Ok s) text = IsReport seed s text
+IsDueFor seed (Err f) text = text ≡ fault_text f
+
+abbrev pub IsDue : ℕ → List ℕ → List ℕ → Type 0
+IsDue seed read text = IsDueFor seed (built_of read) text

@@ -1,0 +1,109 @@
+-- How a run ends: what stands with each status.
+use Rattle.std.specs.Prelude.{◌≡◌, ℕ, ◌+◌, ◌⊎◌, List, length, map, Result, Ok, Err, Option, Some, None, Vec, String, ⊤}
+use Rattle.std.specs.Global.{Global}
+use Rattle.std.specs.String.{string_bytes}
+use Rattle.argo_outside.specs.Faults.{Rose}
+use Rattle.argo_outside.specs.Source.{behind, IsAtEnd}
+use Rattle.argo_outside.specs.Sink.{appended, CutShort}
+use Rattle.argo_model.specs.Script.{Script}
+use Rattle.script_text.specs.declared.kind.ScriptFault.{ScriptFault}
+use Rattle.script_text.specs.FirstForms.{built_of}
+use Rattle.argo_run.specs.declared.status.Status.{Status}
+use Rattle.argo_run.specs.declared.status.Status.TheVariants as s
+use Rattle.argo_run.specs.Words.{seed_of}
+use Rattle.argo_run.specs.Due.{IsReport, IsDue, fault_text, usage_text}
+
+-- the bytes that were read: all of the source, or 4,194,305 of them
+pub record IsRead (old new : Option (List ℕ)) (read : List ℕ) : Type 0 where
+  pub told : old ≡ behind read new
+  pub all : IsAtEnd new ⊎ (length read ≡ 4194305)
+
+-- status 0: the source was read to its end, its bytes are a script, and its report was written whole
+pub record IsDone (seed : ℕ) (left left_new written written_new : Option (List ℕ)) : Type 0 where
+  pub read : List ℕ
+  pub told : left ≡ behind read left_new
+  pub at_end : IsAtEnd left_new
+  pub script : Script
+  pub is_script : built_of read ≡ Ok script
+  pub text : List ℕ
+  pub is_report : IsReport seed script text
+  pub whole : written_new ≡ appended written text
+
+-- status 5: the bytes read are no script, and the line of the fault was written whole
+pub record IsNoScript (fault : ScriptFault) (left left_new written written_new : Option (List ℕ)) : Type 0 where
+  pub read : List ℕ
+  pub is_read : IsRead left left_new read
+  pub no_script : built_of read ≡ Err fault
+  pub whole : written_new ≡ appended written (fault_text fault)
+
+-- a part of the text that was due was written, and not all of it
+pub record IsCutShort (seed : ℕ) (left left_new written written_new : Option (List ℕ)) : Type 0 where
+  pub read : List ℕ
+  pub is_read : IsRead left left_new read
+  pub text : List ℕ
+  pub due : IsDue seed read text
+  pub cut : CutShort written written_new text
+
+-- memory ran out before a byte was written, or while the text that was due was written
+abbrev pub IsLeftOff : ℕ → Option (List ℕ) → Option (List ℕ) → Option (List ℕ) → Option (List ℕ) → Type 0
+IsLeftOff seed left left_new written written_new = (written_new ≡ written) ⊎ IsCutShort seed left left_new written written_new
+
+-- one condition for each status; the others are met by every end
+abbrev pub IfDone : Status → Type 0 → Type 0
+IfDone s.Done P = P
+IfDone _ P = ⊤
+
+abbrev pub IfUsage : Status → Type 0 → Type 0
+IfUsage s.Usage P = P
+IfUsage _ P = ⊤
+
+abbrev pub IfSourceFault : Status → Type 0 → Type 0
+IfSourceFault s.SourceFault P = P
+IfSourceFault _ P = ⊤
+
+abbrev pub IfSinkFault : Status → Type 0 → Type 0
+IfSinkFault s.SinkFault P = P
+IfSinkFault _ P = ⊤
+
+abbrev pub IfScript : Status → (ScriptFault → Type 0) → Type 0
+IfScript (s.Script line kind) P = P (record { line = line; kind = kind })
+IfScript _ P = ⊤
+
+abbrev pub IfNoMemory : Status → Type 0 → Type 0
+IfNoMemory s.NoMemory P = P
+IfNoMemory _ P = ⊤
+
+-- the status agrees with what the bytes of the source are: a fault of the source or the sink and want of memory agree with all
+abbrev pub Agrees : Result Script ScriptFault → Status → Type 0
+Agrees given s.Done = (script : Script) × (given ≡ Ok script)
+Agrees given s.Usage = ⊥
+Agrees given s.SourceFault = ⊤
+Agrees given s.SinkFault = ⊤
+Agrees given (s.Script line kind) = given ≡ Err (record { line = line; kind = kind })
+Agrees given s.NoMemory = ⊤
+
+-- where the source tells its bytes, the status agrees with them
+abbrev pub AgreesWith : Option (List ℕ) → Status → Type 0
+AgreesWith left status = (read : List ℕ) → left ≡ Some read → Agrees (built_of read) status
+
+-- where the source tells that its bytes are a script, and no count rose, the run is done or memory ran out
+abbrev pub IsComplete : Option (List ℕ) → Type 0 → Type 0 → Status → Type 0
+IsComplete left source_rose sink_rose status =
+    (read : List ℕ) (script : Script) → left ≡ Some read → built_of read ≡ Ok script → (source_rose → ⊥) → (sink_rose → ⊥)
+    → (status ≡ s.Done) ⊎ (status ≡ s.NoMemory)
+
+-- the seed of the words of the command line, where they have one
+abbrev pub seeds : Vec (String Global) Global → Option ℕ
+seeds words = seed_of (map string_bytes words.items)
+
+abbrev pub HasSeed : Vec (String Global) Global → (ℕ → Type 0) → Type 0
+HasSeed words P = (seed : ℕ) × (seeds words ≡ Some seed) × P seed
+
+-- the two ends of a run with wrong words
+abbrev pub IsUsageOrSinkFault : Status → Type 0
+IsUsageOrSinkFault status = (status ≡ s.Usage) ⊎ (status ≡ s.SinkFault)
+
+-- a part of the text that was due for the words was written, and not all of it
+abbrev pub IsTextCutShort : Option ℕ → Option (List ℕ) → Option (List ℕ) → Option (List ℕ) → Option (List ℕ) → Type 0
+IsTextCutShort (Some seed) left left_new written written_new = IsCutShort seed left left_new written written_new
+IsTextCutShort None left left_new written written_new = CutShort written written_new usage_text

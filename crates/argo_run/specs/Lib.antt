@@ -1,0 +1,5 @@
+pub mod Words
+pub mod Due
+pub mod Ends
+pub mod Numbers
+pub mod Serve

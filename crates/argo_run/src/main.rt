@@ -1,0 +1,51 @@
+//! The program: words, the bytes of a script and its report.
+//!
+//! `run` does all that the program does, and `run_serial` what it does for the words `serial N`: with status 0 what was written
+//! is exactly the report of the abstract Argo machine under the picks of the seed. It stands on all crates below it.
+#![tactic(auto)]
+
+mod program;
+mod serial;
+mod status;
+mod words;
+
+pub use program::run;
+pub use serial::run_serial;
+pub use status::Status;
+
+use argo_outside::{StdSink, StdSource};
+use std::env;
+use std::io::{self, BufWriter, ErrorKind};
+use std::process::ExitCode;
+
+/// The exit status where the system refuses the words, as for one that is not UTF-8.
+const WORDS_REFUSED: u8 = 11;
+
+fn main(rt: HostRuntime) -> ExitCode {
+    match words_of(&rt) {
+        Ok(words) => ExitCode::from(run_on_system(&rt, &words).number()),
+        Err(error) if error.kind() == ErrorKind::OutOfMemory => {
+            ExitCode::from(Status::NoMemory.number())
+        }
+        Err(_) => ExitCode::from(WORDS_REFUSED),
+    }
+}
+
+// The words after the program's name.
+fn words_of(rt: &HostRuntime) -> io::Result<Vec<String>> {
+    Ok(env::args(rt)?.skip(1).collect(rt.alloc())?)
+}
+
+// Runs over standard input and standard output.
+fn run_on_system(rt: &HostRuntime, words: &Vec<String>) -> Status {
+    let Ok(writer) = BufWriter::new(rt.alloc(), rt.stdout()) else {
+        return Status::NoMemory;
+    };
+    let mut src = StdSource::new(rt.stdin());
+    let mut out = StdSink::new(writer);
+    let status = run(rt.alloc(), words, &mut src, &mut out);
+    match out.flush() {
+        Ok(()) => status,
+        Err(_) => Status::SinkFault,
+    }
+}

@@ -1,0 +1,58 @@
+ghost use Rattle.std.specs.Prelude.{◌≡◌, ◌≤◌, None, ⊤};
+ghost use Rattle.argo_outside.specs.Faults.{Rose};
+ghost use Rattle.argo_outside.specs.Sink.{appended};
+ghost use Rattle.argo_run.specs.Due.{usage_text};
+ghost use Rattle.argo_run.specs.Ends.{IsDone, IsNoScript, IsTextCutShort, IsLeftOff, IfDone, IfUsage, IfSourceFault, IfSinkFault, IfScript, IfNoMemory, AgreesWith, IsComplete, IsUsageOrSinkFault, seeds, HasSeed};
+ghost use Rattle.argo_run.specs.Serve.{WroteUsage};
+
+use crate::Status;
+use crate::serial::run_serial;
+use crate::words::seed_of;
+use argo_outside::{Sink, Source, write_whole};
+use std::alloc::Global;
+
+/// Does all that the program does, for its words after its name.
+pub fn run<S: Source, K: Sink>(
+    alloc: Global,
+    words: &Vec<String>,
+    src: &mut S,
+    out: &mut K,
+) -> Status
+    ensures source { S.faults src.old ≤ S.faults src.new }
+    ensures sink { K.faults out.old ≤ K.faults out.new }
+    ensures done { IfDone result (HasSeed words.now (λ seed.
+        IsDone seed (S.left src.old) (S.left src.new) (K.written out.old) (K.written out.new))) }
+    ensures usage { IfUsage result (seeds words.now ≡ None) }
+    ensures usage_whole { IfUsage result (K.written out.new ≡ appended (K.written out.old) usage_text) }
+    ensures wrong_words { seeds words.now ≡ None → IsUsageOrSinkFault result }
+    ensures wrong_words_unread { seeds words.now ≡ None → src.new ≡ src.old }
+    ensures source_fault { IfSourceFault result (Rose (S.faults src.old) (S.faults src.new)) }
+    ensures source_fault_nothing { IfSourceFault result (K.written out.new ≡ K.written out.old) }
+    ensures sink_fault { IfSinkFault result (Rose (K.faults out.old) (K.faults out.new)) }
+    ensures sink_fault_cut { IfSinkFault result
+        (IsTextCutShort (seeds words.now) (S.left src.old) (S.left src.new) (K.written out.old) (K.written out.new)) }
+    ensures script { IfScript result (λ f. HasSeed words.now (λ seed.
+        IsNoScript f (S.left src.old) (S.left src.new) (K.written out.old) (K.written out.new))) }
+    ensures no_memory { IfNoMemory result (HasSeed words.now (λ seed.
+        IsLeftOff seed (S.left src.old) (S.left src.new) (K.written out.old) (K.written out.new))) }
+    ensures agrees { HasSeed words.now (λ seed. ⊤) → AgreesWith (S.left src.old) result }
+    ensures complete { HasSeed words.now (λ seed. ⊤) → IsComplete (S.left src.old)
+        (Rose (S.faults src.old) (S.faults src.new)) (Rose (K.faults out.old) (K.faults out.new)) result }
+{
+    match seed_of(words) {
+        Some(seed) => run_serial(alloc, seed, src, out),
+        None => tell_usage(out),
+    }
+}
+
+// Writes the line of usage.
+fn tell_usage<K: Sink>(out: &mut K) -> Status
+    ensures count { K.faults out.old ≤ K.faults out.new }
+    ensures ends { WroteUsage (K.written out.old) (K.written out.new)
+        (Rose (K.faults out.old) (K.faults out.new)) result }
+{
+    match write_whole(out, b"usage: argo_run threads | serial N | gen N\n") {
+        Ok(()) => Status::Usage,
+        Err(_) => Status::SinkFault,
+    }
+}

@@ -1,0 +1,37 @@
+ghost use Rattle.std.specs.Prelude.{◌≡◌};
+ghost use Rattle.argo_run.specs.Numbers.{number_of};
+
+use script_text::ScriptKind;
+
+/// How a run ends.
+#[derive(Clone, Copy, Debug, PartialEq, Eq)]
+pub enum Status {
+    /// The text that is due was written whole.
+    Done,
+    /// The words are none of the three forms, and the line of usage was written.
+    Usage,
+    /// The source failed, and counted the fault. Nothing was written.
+    SourceFault,
+    /// The sink failed, and counted the fault. A part of the text that was due was written, and not all of it.
+    SinkFault,
+    /// The bytes are no script. A line of the fault was written; line 0 is the script as a whole.
+    Script { line: u32, kind: ScriptKind },
+    /// Memory ran out. A part of the text that was due was written, and not all of it.
+    NoMemory,
+}
+
+impl Status {
+    /// The exit status of the program.
+    pub fn number(self) -> u8
+        ensures { result ≡ number_of self }
+    {
+        match self {
+            Status::Done => 0,
+            Status::Usage => 2,
+            Status::SourceFault => 3,
+            Status::SinkFault => 4,
+            Status::Script { .. } => 5,
+            Status::NoMemory => 7,
+        }
+    }
+}
