@@ -1,3 +1,4 @@
-pub mod PieceLaws
 pub mod KeyLaws
+pub mod PieceLaws
 pub mod SlotLaws
+pub mod SpliceLaws

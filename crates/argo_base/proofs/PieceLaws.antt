@@ -59,16 +59,16 @@ pieces-first page off n below some = ⊎_elim (λ long.
     ∙ ap (λ c. map (piece_in (4096 * page + off) n) (range_with_len page c)) (one_page_more page off n below long)
     ∙ ap (λ x. x ∷ map (piece_in (4096 * page + off) n) (range_with_len (page + 1) (pages_touched (4096 * (page + 1) + 0) (n - (4096 - off))))) (first_is page off n below)
     ∙ ap (λ xs. record { page = page; off = off; n = min n (4096 - off) } ∷ xs) (
-        map_range (piece_in (4096 * page + off) n) (piece_in (4096 * (page + 1) + 0) (n - (4096 - off))) (page + 1) (λ p above. later_is page off n p below long above) (page + 1) _ (omega arith)
-        ∙ ap (λ q. map (piece_in (4096 * (page + 1) + 0) (n - (4096 - off))) (range_with_len q (pages_touched (4096 * (page + 1) + 0) (n - (4096 - off))))) (sym (page_of (page + 1) 0 (omega arith)))
-        ∙ ap (λ m. pieces (4096 * (page + 1) + 0) (n - m)) (sym k)))
-  (λ short.
+    map_range (piece_in (4096 * page + off) n) (piece_in (4096 * (page + 1) + 0) (n - (4096 - off))) (page + 1) (λ p above. later_is page off n p below long above) (page + 1) _ (omega arith)
+    ∙ ap (λ q. map (piece_in (4096 * (page + 1) + 0) (n - (4096 - off))) (range_with_len q (pages_touched (4096 * (page + 1) + 0) (n - (4096 - off))))) (sym (page_of (page + 1) 0 (omega arith)))
+    ∙ ap (λ m. pieces (4096 * (page + 1) + 0) (n - m)) (sym k)))
+    (λ short.
     let k : n - min n (4096 - off) ≡ 0 = omega arith in
     ap (λ q. map (piece_in (4096 * page + off) n) (range_with_len q (pages_touched (4096 * page + off) n))) (page_of page off below)
     ∙ ap (λ c. map (piece_in (4096 * page + off) n) (range_with_len page c)) (one_page page off n below some short)
     ∙ ap (λ x. x ∷ []) (first_is page off n below)
     ∙ ap (λ m. record { page = page; off = off; n = min n (4096 - off) } ∷ pieces (4096 * (page + 1) + 0) m) (sym k))
-  (cases_lt (4096 - off) n)
+    (cases_lt (4096 - off) n)
 
 length_range : (from n : ℕ) → length (range_with_len from n) ≡ n
 length_range from zero = refl

@@ -3,5 +3,6 @@ pub mod Iovs
 pub mod Layout
 pub mod Match
 pub mod Pieces
+pub mod Rounds
 pub mod Slots
 pub mod Splice

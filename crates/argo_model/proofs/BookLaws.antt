@@ -1,5 +1,5 @@
 -- Laws of what the machine writes down of its steps: the schedule in runs, the totals, and the lines that are done.
-use Rattle.std.proofs.Common.{◌≡◌, ◌≢◌, ℕ, zero, suc, ◌+◌, ◌-◌, ◌<◌, ◌≤◌, Bool, true, false, cond, eqb, List, [], ◌∷◌, ◌++◌, length, set, Option, Some, None, slice_get, replicate, get_or, ⊎_elim, map, flat_map, refl, sym, ap, ◌∙◌, subst, append_assoc, arith, if◌then◌else◌}
+use Rattle.std.proofs.Common.{◌≡◌, ◌≢◌, ℕ, zero, suc, ◌+◌, ◌-◌, ◌<◌, ◌≤◌, List, [], ◌∷◌, ◌++◌, length, set, replicate, get_or, ⊎_elim, map, refl, sym, ap, ◌∙◌, append_assoc, arith}
 use Rattle.std.proofs.lemmas.Bool.{cases_eq}
 use Rattle.std.proofs.lemmas.Bool.Decides.{nat_tests}
 use Rattle.std.proofs.lemmas.List.{append-nil, replicate_more, length-append, length-replicate}
@@ -16,7 +16,7 @@ other_run r v e = grind (arith, nat_tests)
 
 -- one step more of the section of the last run
 pub grown-same : (rs : List Run) (v : ℕ) (r : Run) → 0 < length rs → r ≡ get_or rs (length rs - 1) r → r.vcpu ≡ v
-  → set rs (length rs - 1) (record { vcpu = v; count = r.count + 1 }) ≡ grown rs v
+    → set rs (length rs - 1) (record { vcpu = v; count = r.count + 1 }) ≡ grown rs v
 grown-same [] v r some here e = absurd (omega arith)
 grown-same (x ∷ []) v r some here e =
     let same : r ≡ x = here in
@@ -41,10 +41,10 @@ pub schedule_of-grown : (rs : List Run) (v : ℕ) → schedule_of (grown rs v) �
 schedule_of-grown [] v = refl
 schedule_of-grown (r ∷ []) v =
     ⊎_elim (λ same. ap schedule_of (same_run r v same) ∙ append-nil (replicate (r.count + 1) v)
-      ∙ sym (replicate_more r.count v)
-      ∙ ap (λ w. replicate r.count w ++ v ∷ []) (sym same) ∙ ap (λ xs. xs ++ v ∷ []) (sym (append-nil (replicate r.count r.vcpu))))
+    ∙ sym (replicate_more r.count v)
+    ∙ ap (λ w. replicate r.count w ++ v ∷ []) (sym same) ∙ ap (λ xs. xs ++ v ∷ []) (sym (append-nil (replicate r.count r.vcpu))))
     (λ other. ap schedule_of (other_run r v other)
-      ∙ ap (λ xs. xs ++ v ∷ []) (sym (append-nil (replicate r.count r.vcpu))))
+    ∙ ap (λ xs. xs ++ v ∷ []) (sym (append-nil (replicate r.count r.vcpu))))
     (cases_eq r.vcpu v)
 schedule_of-grown (r ∷ r2 ∷ rs) v =
     ap (λ xs. replicate r.count r.vcpu ++ xs) (schedule_of-grown (r2 ∷ rs) v) ∙ sym (append_assoc (replicate r.count r.vcpu) (schedule_of (r2 ∷ rs)) (v ∷ []))
@@ -61,12 +61,12 @@ count-le-schedule [] i r there here = absurd (omega arith)
 count-le-schedule (x ∷ rs) zero r there here =
     let e : r.count ≡ x.count = ap (λ y. y.count) here in
     let n : length (schedule_of (x ∷ rs)) ≡ x.count + length (schedule_of rs) =
-      length-append (replicate x.count x.vcpu) (schedule_of rs) ∙ ap (λ k. k + length (schedule_of rs)) (length-replicate x.count x.vcpu) in
+    length-append (replicate x.count x.vcpu) (schedule_of rs) ∙ ap (λ k. k + length (schedule_of rs)) (length-replicate x.count x.vcpu) in
     omega arith
 count-le-schedule (x ∷ rs) (suc i) r there here =
     let less = count-le-schedule rs i r (omega arith) here in
     let n : length (schedule_of (x ∷ rs)) ≡ x.count + length (schedule_of rs) =
-      length-append (replicate x.count x.vcpu) (schedule_of rs) ∙ ap (λ k. k + length (schedule_of rs)) (length-replicate x.count x.vcpu) in
+    length-append (replicate x.count x.vcpu) (schedule_of rs) ∙ ap (λ k. k + length (schedule_of rs)) (length-replicate x.count x.vcpu) in
     omega arith
 
 -- the runs of one number more
@@ -75,7 +75,7 @@ runs_of-push schedule v = fold_push grown [] schedule v
 
 -- one function for another at one place of a range
 pub set-map-range : {A : Type 0} (f g : ℕ → A) (from n i : ℕ) → i < n → ((k : ℕ) → k ≢ from + i → g k ≡ f k)
-  → set (map f (range_with_len from n)) i (g (from + i)) ≡ map g (range_with_len from n)
+    → set (map f (range_with_len from n)) i (g (from + i)) ≡ map g (range_with_len from n)
 set-map-range f g from zero i inside same = absurd (omega arith)
 set-map-range f g from (suc n) zero inside same =
     let at : from + 0 ≡ from = omega arith in
@@ -84,5 +84,5 @@ set-map-range f g from (suc n) zero inside same =
 set-map-range f g from (suc n) (suc i) inside same =
     let at : from + suc i ≡ from + 1 + i = omega arith in
     ap (λ y. f from ∷ y) (ap (λ k. set (map f (range_with_len (from + 1) n)) i (g k)) at
-      ∙ set-map-range f g (from + 1) n i (omega arith) (λ k ne. same k (λ e. ne (e ∙ at))))
+    ∙ set-map-range f g (from + 1) n i (omega arith) (λ k ne. same k (λ e. ne (e ∙ at))))
     ∙ ap (λ y. y ∷ map g (range_with_len (from + 1) n)) (sym (same from (λ e. absurd (omega arith))))

@@ -1,5 +1,5 @@
 -- Laws of the lines of sections.
-use Rattle.std.proofs.Common.{◌≡◌, ℕ, zero, suc, Bool, true, false, List, [], ◌∷◌, IsTrue, ◌&&◌, Some, slice_get, refl, sym, ap, ◌∙◌, subst, ◌≤◌, nat_le, length, sum_by, arith}
+use Rattle.std.proofs.Common.{◌≡◌, ℕ, zero, suc, Bool, true, false, List, [], ◌∷◌, IsTrue, ◌&&◌, Some, slice_get, refl, subst, ◌≤◌, nat_le, length, sum_by, arith}
 use Rattle.std.proofs.lemmas.Bool.Decides.{nat_tests}
 use Rattle.std.proofs.lemmas.Bool.{false≢true}
 use Rattle.std.specs.List.{list_all}
@@ -34,7 +34,7 @@ not_control (Create d) built control = absurd (false≢true built)
 
 -- a line of a lawful section that the machine performs is one of a virtual CPU
 pub vcpu_line_from_built : (actor : Actor) (lines : List Line) (i : ℕ) (line : Line) → slice_get lines i ≡ Some line
-  → IsTrue (is_lawful_for actor lines) → IsTrue (is_built_line line) → IsTrue (is_vcpu_line line)
+    → IsTrue (is_lawful_for actor lines) → IsTrue (is_built_line line) → IsTrue (is_vcpu_line line)
 vcpu_line_from_built (Vcpu d g) lines i line here lawful built =
     list_all-at is_vcpu_line lines i line here (both (is_generation g) (list_all is_vcpu_line lines) lawful).1
 vcpu_line_from_built Control lines i line here lawful built = not_control line built (list_all-at is_control_line lines i line here lawful)
@@ -44,7 +44,7 @@ le_from m n h = grind (arith, nat_tests)
 
 -- how much a lawful script has at most
 pub lawful_bounds : (s : Script) → IsTrue (is_lawful s)
-  → (length s.sections ≤ 64) × (sum_by (λ x. length x.lines) s.sections ≤ 8192) × (sum_by (λ x. sum_by turns_of x.lines) s.sections ≤ 1048576)
+    → (length s.sections ≤ 64) × (sum_by (λ x. length x.lines) s.sections ≤ 8192) × (sum_by (λ x. sum_by turns_of x.lines) s.sections ≤ 1048576)
 lawful_bounds s lawful =
     let a = (both _ _ lawful).0 in
     let b = (both _ _ a).0 in

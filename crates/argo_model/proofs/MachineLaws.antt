@@ -1,6 +1,6 @@
 -- Laws of what a machine keeps of a run.
-use Rattle.std.proofs.Common.{◌≡◌, ◌≢◌, ◌↔◌, ◌⊎◌, inl, inr, get_or, ℕ, zero, suc, ◌+◌, ◌-◌, ◌*◌, ◌^◌, ◌<◌, ◌≤◌, Bool, true, false, cond, eqb, List, [], ◌∷◌, ◌++◌, length, set, replicate, IsTrue, map, sum_by, count_by, Option, Some, None, IfSome, slice_get, refl, sym, ap, ◌∙◌, subst, arith, add-zero, if◌then◌else◌, ⊎_elim}
-use Rattle.std.proofs.lemmas.Bool.{cases_eq, cases_lt}
+use Rattle.std.proofs.Common.{◌≡◌, ◌≢◌, ◌↔◌, ◌⊎◌, inl, inr, get_or, ℕ, zero, suc, ◌+◌, ◌^◌, ◌<◌, ◌≤◌, Bool, true, false, cond, eqb, List, [], ◌∷◌, ◌++◌, length, set, replicate, IsTrue, map, sum_by, count_by, Option, Some, None, slice_get, refl, sym, ap, ◌∙◌, subst, arith, add-zero, if◌then◌else◌, ⊎_elim}
+use Rattle.std.proofs.lemmas.Bool.{cases_lt}
 use Rattle.std.proofs.lemmas.Bool.Decides.{nat_tests}
 use Rattle.std.proofs.lemmas.Bool.{false≢true}
 use Rattle.std.proofs.lemmas.List.{length-append, length-set, length-drop, length-map, length-replicate, drop_all}
@@ -28,7 +28,7 @@ use Rattle.argo_model.proofs.BookLaws.{schedule_of-grown, runs_of-push, set-map-
 
 -- the section of a seat stands at the seat's place
 pub stands_at : (ss : List Seat) (ps : List Progress) (v : ℕ) (s : Seat) → AllStand ss ps → slice_get ss v ≡ Some s
-  → (p : Progress) × (slice_get ps v ≡ Some p) × Stands s p
+    → (p : Progress) × (slice_get ps v ≡ Some p) × Stands s p
 stands_at [] [] v s all here = cc
 stands_at [] (p ∷ ps) v s all here = absurd all
 stands_at (x ∷ ss) [] v s all here = absurd all
@@ -85,15 +85,19 @@ pub record RunTurn (c : Course) (v line : ℕ) (o : Outcome) (reply : Option Rep
   pub stands : Stands new turned.progress
 
 pub run_turn : (ss : List Seat) (before after : State) (c : Course) (v : ℕ) (s new : Seat) (o : Outcome) (reply : Option Reply)
-  → before ≡ c.state → AllStand ss c.sections → slice_get ss v ≡ Some s → TakesTurn s before o reply new after
-  → RunTurn c v (s.done + 1) o reply new after
+    → before ≡ c.state → AllStand ss c.sections → slice_get ss v ≡ Some s → TakesTurn s before o reply new after
+    → RunTurn c v (s.done + 1) o reply new after
 run_turn ss before after c v s new o reply state all here taken =
     let st = stands_at ss c.sections v s all here in
     let t = taken.turns st.0 st.2 in
     record {
       turned = t.0;
       is = ap (λ x. option_and_then (turn c.state) x) st.1 ∙ ap (λ x. turn x st.0) (sym state) ∙ t.1;
-      line_is = t.2; outcome_is = t.3; reply_is = t.4; state_is = t.5; stands = t.6;
+      line_is = t.2;
+      outcome_is = t.3;
+      reply_is = t.4;
+      state_is = t.5;
+      stands = t.6;
     }
 
 abbrev totals_with : ℕ → ℕ → ℕ → Totals
@@ -116,9 +120,9 @@ totals-push-same steps x k e =
     let b = is_same x.vcpu k e in
     let n1 = count_push (λ t. eqb t.vcpu k) steps x ∙ ap (λ z. count_by (λ t. eqb t.vcpu k) steps + cond z 1 0) b in
     let n2 = count_push (λ t. if eqb t.vcpu k then is_accepted (accepted_size t.outcome) else false) steps x
-      ∙ ap (λ z. count_by (λ t. if eqb t.vcpu k then is_accepted (accepted_size t.outcome) else false) steps + cond (if z then is_accepted (accepted_size x.outcome) else false) 1 0) b in
+    ∙ ap (λ z. count_by (λ t. if eqb t.vcpu k then is_accepted (accepted_size t.outcome) else false) steps + cond (if z then is_accepted (accepted_size x.outcome) else false) 1 0) b in
     let n3 = sum_by_push (λ t. if eqb t.vcpu k then size_or_none (accepted_size t.outcome) else 0) steps x
-      ∙ ap (λ z. sum_by (λ t. if eqb t.vcpu k then size_or_none (accepted_size t.outcome) else 0) steps + (if z then size_or_none (accepted_size x.outcome) else 0)) b in
+    ∙ ap (λ z. sum_by (λ t. if eqb t.vcpu k then size_or_none (accepted_size t.outcome) else 0) steps + (if z then size_or_none (accepted_size x.outcome) else 0)) b in
     same_totals _ _ _ _ _ _ n1 n2 n3
 
 totals-push-other : (steps : List Step) (x : Step) (k : ℕ) → x.vcpu ≢ k → totals_of (steps ++ x ∷ []) k ≡ totals_of steps k
@@ -126,14 +130,14 @@ totals-push-other steps x k e =
     let b = is_other x.vcpu k e in
     let n1 = count_push (λ t. eqb t.vcpu k) steps x ∙ ap (λ z. count_by (λ t. eqb t.vcpu k) steps + cond z 1 0) b ∙ add-zero _ in
     let n2 = count_push (λ t. if eqb t.vcpu k then is_accepted (accepted_size t.outcome) else false) steps x
-      ∙ ap (λ z. count_by (λ t. if eqb t.vcpu k then is_accepted (accepted_size t.outcome) else false) steps + cond (if z then is_accepted (accepted_size x.outcome) else false) 1 0) b ∙ add-zero _ in
+    ∙ ap (λ z. count_by (λ t. if eqb t.vcpu k then is_accepted (accepted_size t.outcome) else false) steps + cond (if z then is_accepted (accepted_size x.outcome) else false) 1 0) b ∙ add-zero _ in
     let n3 = sum_by_push (λ t. if eqb t.vcpu k then size_or_none (accepted_size t.outcome) else 0) steps x
-      ∙ ap (λ z. sum_by (λ t. if eqb t.vcpu k then size_or_none (accepted_size t.outcome) else 0) steps + (if z then size_or_none (accepted_size x.outcome) else 0)) b ∙ add-zero _ in
+    ∙ ap (λ z. sum_by (λ t. if eqb t.vcpu k then size_or_none (accepted_size t.outcome) else 0) steps + (if z then size_or_none (accepted_size x.outcome) else 0)) b ∙ add-zero _ in
     same_totals _ _ _ _ _ _ n1 n2 n3
 
 -- the totals after one step more of section v
 pub totals-set : (steps : List Step) (x : Step) (n v : ℕ) → x.vcpu ≡ v → v < n
-  → set (map (totals_of steps) (range_with_len 0 n)) v (totals_after (totals_of steps v) x.outcome) ≡ map (totals_of (steps ++ x ∷ [])) (range_with_len 0 n)
+    → set (map (totals_of steps) (range_with_len 0 n)) v (totals_after (totals_of steps v) x.outcome) ≡ map (totals_of (steps ++ x ∷ [])) (range_with_len 0 n)
 totals-set steps x n v same inside =
     let at : 0 + v ≡ v = omega arith in
     ap (set (map (totals_of steps) (range_with_len 0 n)) v) (sym (totals-push-same steps x v same) ∙ ap (totals_of (steps ++ x ∷ [])) (sym at))
@@ -173,20 +177,20 @@ more_small t n small = (omega (arith, small.0), omega (arith, small.1), omega (a
 
 -- the totals stay small
 pub small-set : (ss : List Seat) (runs : List Run) (totals : List Totals) (v : ℕ) (s new : Seat) (t : Totals) (o : Outcome)
-  → AreSmall ss runs totals → slice_get ss v ≡ Some s → seat_left new < seat_left s → t ≡ get_or totals v t → size_or_none (accepted_size o) < 2 ^ 32
-  → AreSmall (set ss v new) (grown runs v) (set totals v (totals_after t o))
+    → AreSmall ss runs totals → slice_get ss v ≡ Some s → seat_left new < seat_left s → t ≡ get_or totals v t → size_or_none (accepted_size o) < 2 ^ 32
+    → AreSmall (set ss v new) (grown runs v) (set totals v (totals_after t o))
 small-set ss runs totals v s new t o small here nearer read size =
     let n : length (schedule_of (grown runs v)) ≡ length (schedule_of runs) + 1 =
-      ap length (schedule_of-grown runs v) ∙ length-append (schedule_of runs) (v ∷ []) in
+    ap length (schedule_of-grown runs v) ∙ length-append (schedule_of runs) (v ∷ []) in
     let inside = inside_of ss v s here in
     let as_many = small.as_many in
     let old = small.totals_small v t (slice_get-read totals v t (omega arith) read) in
     let sum = left-set ss v s new here in
     record {
       totals_small = λ k x at. ⊎_elim
-        (λ e. let P : Totals → Type 0 = λ y. IsSmall (length (schedule_of runs) + 1) y in rw n (subst P (sym e) (bump_small t o (length (schedule_of runs)) old size)))
-        (λ stood. rw n (more_small x (length (schedule_of runs)) (small.totals_small k x stood)))
-        (slice_get-set totals v k (totals_after t o) x at);
+          (λ e. let P : Totals → Type 0 = λ y. IsSmall (length (schedule_of runs) + 1) y in rw n (subst P (sym e) (bump_small t o (length (schedule_of runs)) old size)))
+          (λ stood. rw n (more_small x (length (schedule_of runs)) (small.totals_small k x stood)))
+          (slice_get-set totals v k (totals_after t o) x at);
       bounded = let b = small.bounded in rw n (omega arith);
       few = rw length-set small.few;
       as_many = length-set totals v (totals_after t o) ∙ small.as_many ∙ sym (length-set ss v new);
@@ -208,37 +212,38 @@ zero_add n = omega arith
 
 -- a machine that keeps the course keeps it after a step
 pub advanced : (ss : List Seat) (before after : State) (runs : List Run) (done : List DoneLine) (totals : List Totals) (v : ℕ) (s new : Seat) (o : Outcome) (reply : Option Reply) (t : Totals)
-  → AreSmall ss runs totals → slice_get ss v ≡ Some s → TakesTurn s before o reply new after → t ≡ get_or totals v t → size_or_none (accepted_size o) < 2 ^ 32
-  → (c : Course) → KeepsCourse ss before runs done totals c
-  → KeepsCourse (set ss v new) after (grown runs v) (done ++ done_lines v (s.done + 1) reply) (set totals v (totals_after t o)) (step c v)
+    → AreSmall ss runs totals → slice_get ss v ≡ Some s → TakesTurn s before o reply new after → t ≡ get_or totals v t → size_or_none (accepted_size o) < 2 ^ 32
+    → (c : Course) → KeepsCourse ss before runs done totals c
+    → KeepsCourse (set ss v new) after (grown runs v) (done ++ done_lines v (s.done + 1) reply) (set totals v (totals_after t o)) (step c v)
     × (option_map (λ x. x.outcome) (next_turn c v) ≡ Some o)
 advanced ss before after runs done totals v s new o reply t small here taken read size c keeps =
     let r = run_turn ss before after c v s new o reply keeps.state_is keeps.seats_stand here taken in
     let x : Step = record { vcpu = v; line = r.turned.line; action = r.turned.action; outcome = r.turned.outcome; reply = r.turned.reply } in
     let inside = inside_of ss v s here in
     let here_t : t ≡ totals_of c.steps v =
-      read ∙ ap (λ ts. get_or ts v t) keeps.totals_are ∙ get_or-map-range (totals_of c.steps) 0 (length ss) v t inside ∙ ap (totals_of c.steps) (zero_add v) in
+    read ∙ ap (λ ts. get_or ts v t) keeps.totals_are ∙ get_or-map-range (totals_of c.steps) 0 (length ss) v t inside ∙ ap (totals_of c.steps) (zero_add v) in
     let stepped : step c v ≡ after_turn c v (Some r.turned) = ap (λ y. after_turn c v y) r.is in
-    let P : Course → Type 0 = λ y. KeepsCourse (set ss v new) after (grown runs v) (done ++ done_lines v (s.done + 1) reply) (set totals v (totals_after t o)) y in
-    (subst P (sym stepped) (record {
+    let P : Course → Type 0 = λ y. KeepsCourse (set ss v new) after (grown runs v) (done ++ done_lines v (s.done + 1) reply) (set totals v (totals_after t o)) y in (
+      subst P (sym stepped) (record {
         state_is = sym r.state_is;
         seats_stand = all_stand-set ss c.sections v new r.turned.progress keeps.seats_stand taken.seat r.stands;
         each_step =
-          length-append c.steps (x ∷ []) ∙ ap (λ n. n + 1) keeps.each_step
-          ∙ sym (length-append (schedule_of runs) (v ∷ [])) ∙ ap length (sym (schedule_of-grown runs v));
+            length-append c.steps (x ∷ []) ∙ ap (λ n. n + 1) keeps.each_step
+            ∙ sym (length-append (schedule_of runs) (v ∷ [])) ∙ ap length (sym (schedule_of-grown runs v));
         runs_are = ap (λ rs. grown rs v) keeps.runs_are ∙ sym (runs_of-push (schedule_of runs) v) ∙ ap runs_of (sym (schedule_of-grown runs v));
         done_is =
-          ap (λ ds. ds ++ done_lines v (s.done + 1) reply) keeps.done_is
-          ∙ ap (λ ls. done_of c.steps ++ ls) (sym (done_of-one v r.turned.line r.turned.action r.turned.outcome r.turned.reply ∙ ap (λ l. done_lines v l r.turned.reply) r.line_is ∙ ap (λ y. done_lines v (s.done + 1) y) r.reply_is))
-          ∙ sym (done-push c.steps x);
+            ap (λ ds. ds ++ done_lines v (s.done + 1) reply) keeps.done_is
+            ∙ ap (λ ls. done_of c.steps ++ ls) (sym (done_of-one v r.turned.line r.turned.action r.turned.outcome r.turned.reply ∙ ap (λ l. done_lines v l r.turned.reply) r.line_is ∙ ap (λ y. done_lines v (s.done + 1) y) r.reply_is))
+            ∙ sym (done-push c.steps x);
         totals_are =
-          ap (λ ts. set ts v (totals_after t o)) keeps.totals_are
-          ∙ ap (λ y. set (map (totals_of c.steps) (range_with_len 0 (length ss))) v y) (ap (λ y. totals_after y o) here_t ∙ ap (λ y. totals_after (totals_of c.steps v) y) (sym r.outcome_is))
-          ∙ totals-set c.steps x (length ss) v refl inside
-          ∙ ap (λ n. map (totals_of (c.steps ++ x ∷ [])) (range_with_len 0 n)) (sym (length-set ss v new));
+            ap (λ ts. set ts v (totals_after t o)) keeps.totals_are
+            ∙ ap (λ y. set (map (totals_of c.steps) (range_with_len 0 (length ss))) v y) (ap (λ y. totals_after y o) here_t ∙ ap (λ y. totals_after (totals_of c.steps v) y) (sym r.outcome_is))
+            ∙ totals-set c.steps x (length ss) v refl inside
+            ∙ ap (λ n. map (totals_of (c.steps ++ x ∷ [])) (range_with_len 0 n)) (sym (length-set ss v new));
         small = small-set ss runs totals v s new t o small here taken.nearer read size;
       }),
-     ap (λ y. option_map (λ z. z.outcome) y) r.is ∙ ap (λ y. Some y) r.outcome_is)
+      ap (λ y. option_map (λ z. z.outcome) y) r.is ∙ ap (λ y. Some y) r.outcome_is,
+    )
 
 -- a seat that has not changed leaves all as it was
 pub left-same : (ss : List Seat) (v : ℕ) (s new : Seat) → slice_get ss v ≡ Some s → seat_left new ≡ seat_left s → sum_by seat_left (set ss v new) ≡ sum_by seat_left ss
@@ -268,7 +273,7 @@ small-same ss runs totals v s new small here same =
     }
 
 pub kept_same : (ss : List Seat) (state : State) (runs : List Run) (done : List DoneLine) (totals : List Totals) (v : ℕ) (s new : Seat)
-  → slice_get ss v ≡ Some s → StaysSeated s new → (c : Course) → KeepsCourse ss state runs done totals c → KeepsCourse (set ss v new) state runs done totals c
+    → slice_get ss v ≡ Some s → StaysSeated s new → (c : Course) → KeepsCourse ss state runs done totals c → KeepsCourse (set ss v new) state runs done totals c
 kept_same ss state runs done totals v s new here stays c keeps =
     record {
       state_is = keeps.state_is;
@@ -282,7 +287,7 @@ kept_same ss state runs done totals v s new here stays c keeps =
 
 -- equal books keep the course alike
 pub keeps_along : (ss : List Seat) (w w2 : State) (rs rs2 : List Run) (ds ds2 : List DoneLine) (ts ts2 : List Totals) (c : Course)
-  → w2 ≡ w → rs2 ≡ rs → ds2 ≡ ds → ts2 ≡ ts → KeepsCourse ss w rs ds ts c → KeepsCourse ss w2 rs2 ds2 ts2 c
+    → w2 ≡ w → rs2 ≡ rs → ds2 ≡ ds → ts2 ≡ ts → KeepsCourse ss w rs ds ts c → KeepsCourse ss w2 rs2 ds2 ts2 c
 keeps_along ss w w2 rs rs2 ds ds2 ts ts2 c ew er ed et keeps =
     let P : State → Type 0 = λ x. KeepsCourse ss x rs ds ts c in
     let Q : List Run → Type 0 = λ x. KeepsCourse ss w2 x ds ts c in
@@ -343,9 +348,9 @@ same_of_all (suc n) (suc k) x y here = same_of_all n k x y here
 
 -- before the first step
 pub starts_so : (version : ℕ) (domains : List DomainLine) (ss : List Seat) (xs : List Section) (state : State) (totals : List Totals)
-  → AreSeatsOf ss xs → state ≡ start_state domains → totals ≡ replicate (length ss) (record { steps = 0; accepted = 0; bytes = 0 })
-  → length xs ≤ 64 → sum_by most_of xs ≤ 2 ^ 28
-  → KeepsCourse ss state [] [] totals (start (script_of version domains ss))
+    → AreSeatsOf ss xs → state ≡ start_state domains → totals ≡ replicate (length ss) (record { steps = 0; accepted = 0; bytes = 0 })
+    → length xs ≤ 64 → sum_by most_of xs ≤ 2 ^ 28
+    → KeepsCourse ss state [] [] totals (start (script_of version domains ss))
 starts_so version domains ss xs state totals are state_is totals_are few bound =
     let n : length ss ≡ length xs = sym (length-map ss (λ s. s.part)) ∙ ap length are.sections_are in
     record {
@@ -357,8 +362,8 @@ starts_so version domains ss xs state totals are state_is totals_are few bound =
       totals_are = totals_are ∙ zero_totals 0 (length ss);
       small = record {
         totals_small = λ k t here.
-          let P : Totals → Type 0 = λ y. IsSmall 0 y in
-          subst P (sym (same_of_all (length ss) k _ t (sym (ap (λ ts. slice_get ts k) totals_are) ∙ here))) (omega arith, omega arith, omega arith);
+            let P : Totals → Type 0 = λ y. IsSmall 0 y in
+            subst P (sym (same_of_all (length ss) k _ t (sym (ap (λ ts. slice_get ts k) totals_are) ∙ here))) (omega arith, omega arith, omega arith);
         bounded = let l = are.left in omega arith;
         few = omega arith;
         as_many = ap length totals_are ∙ length-replicate (length ss) _;
@@ -373,7 +378,7 @@ not_less s none = ⊎_elim (λ less. let n = length-drop s.done s.part.lines in 
 
 -- whether all lines of a seat are done tells whether its section is finished
 pub finished_iff : (ss : List Seat) (ps : List Progress) (v : ℕ) (s : Seat) (r : Bool) → AllStand ss ps → v < length ss → s ≡ get_or ss v s
-  → (IsTrue r ↔ (length s.part.lines ≤ s.done)) → IsTrue r ↔ (is_unfinished (slice_get ps v) ≡ false)
+    → (IsTrue r ↔ (length s.part.lines ≤ s.done)) → IsTrue r ↔ (is_unfinished (slice_get ps v) ≡ false)
 finished_iff ss ps v s r all inside read iff =
     let here = slice_get-read ss v s inside read in
     let at = unfinished_at ss ps v s all here in

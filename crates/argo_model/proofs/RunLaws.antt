@@ -1,9 +1,9 @@
 -- Laws of runs.
-use Rattle.std.proofs.Common.{◌≡◌, ℕ, zero, suc, ◌+◌, ◌<◌, Bool, true, false, List, [], ◌∷◌, length, fold, slice_get, slice_set, IsTrue, Option, Some, None, refl, sym, ap, ◌∙◌, subst, arith, option_and_then}
+use Rattle.std.proofs.Common.{◌≡◌, ℕ, suc, ◌<◌, false, List, [], ◌∷◌, length, fold, slice_get, IsTrue, Option, Some, None, refl, ◌∙◌, arith}
 use Rattle.std.specs.List.{list_all}
 use Rattle.std.proofs.lemmas.List.{length-set, length-map}
 use Rattle.argo_model.specs.Script.{Script}
-use Rattle.argo_model.specs.Run.{Progress, Course, Turn, at_first_line, start, run, step, after_turn, next_turn, is_open, is_unfinished, has_lines, is_finished}
+use Rattle.argo_model.specs.Run.{Progress, Course, Turn, at_first_line, start, run, step, after_turn, next_turn, is_unfinished, has_lines, is_finished}
 
 after_turn-sections : (c : Course) (v : ℕ) (t : Option Turn) → length (after_turn c v t).sections ≡ length c.sections
 after_turn-sections c v None = refl

@@ -1,27 +1,26 @@
 -- Laws of sections as the machine keeps them.
-use Rattle.std.proofs.Common.{◌≡◌, ℕ, zero, suc, ◌+◌, ◌-◌, ◌*◌, ◌<◌, ◌≤◌, min, Bool, true, false, List, [], ◌∷◌, ◌++◌, IsTrue, length, drop, sum_by, Option, Some, None, slice_get, IfNone, refl, sym, ap, ◌∙◌, subst, append_assoc, arith, add-one}
+use Rattle.std.proofs.Common.{◌≡◌, ℕ, zero, suc, ◌+◌, ◌<◌, ◌≤◌, List, [], ◌∷◌, ◌++◌, length, drop, sum_by, Some, None, slice_get, refl, sym, ap, ◌∙◌, subst, append_assoc, arith, add-one}
 use Rattle.std.proofs.lemmas.List.{append-nil, drop-drop}
 use Rattle.std.proofs.lemmas.List.Sums.{sum_by-cons}
 use Rattle.argo_base.proofs.PieceLaws.{pieces-first}
 use Rattle.argo_model.specs.declared.seat.Seat.{Seat}
 use Rattle.argo_model.specs.declared.phase.Phase.{Phase}
-use Rattle.argo_model.specs.declared.phase.Phase.TheVariants.{Putting, Fetching, Ended}
+use Rattle.argo_model.specs.declared.phase.Phase.TheVariants.{Putting, Fetching}
 use Rattle.argo_model.specs.declared.cursor.Cursor.{Cursor}
 use Rattle.argo_model.specs.declared.line.Line.{Line}
-use Rattle.argo_model.specs.declared.line.Line.TheVariants.{Store, Load, Op, Await, Recv, Destroy, Reset, Create}
+use Rattle.argo_model.specs.declared.line.Line.TheVariants.{Store, Load}
 use Rattle.argo_model.specs.declared.scripts.Actor.{Actor}
 use Rattle.argo_model.specs.declared.action.Action.{Action}
-use Rattle.argo_model.specs.declared.action.Action.TheVariants.{Put, Fetch}
 use Rattle.argo_model.specs.declared.action.Outcome.{Outcome}
 use Rattle.argo_model.specs.declared.reply.Reply.{Reply}
 use Rattle.argo_model.specs.Cursor.{pieces_left, IsSound}
 use Rattle.argo_model.specs.Program.{Next, Do, Say, Rests, put_all, fetch_all, program}
-use Rattle.argo_model.specs.Phase.{rest_of, IsAtPhase, GoesOnAlike, phase_left, fed_to}
-use Rattle.argo_model.specs.Act.{Told, act}
+use Rattle.argo_model.specs.Phase.{rest_of, IsAtPhase, GoesOnAlike, phase_left}
+use Rattle.argo_model.specs.Act.{act}
 use Rattle.argo_model.specs.State.{State}
-use Rattle.argo_model.specs.Run.{Progress, Turn, turn, turn_at, turn_by, turn_to}
+use Rattle.argo_model.specs.Run.{Progress, turn, turn_at, turn_by, turn_to}
 use Rattle.argo_model.specs.Steps.{most_steps}
-use Rattle.argo_model.specs.Seat.{IsAtLine, lines_left, IsSeat, seat_left, StandsFor, Stands, Begins, TakesTurn, StaysSeated}
+use Rattle.argo_model.specs.Seat.{IsAtLine, lines_left, IsSeat, StandsFor, Stands, Begins, TakesTurn, StaysSeated}
 
 -- from the place of a value on, a list is that value and then the rest
 pub drop-slice_get : {A : Type 0} (xs : List A) (i : ℕ) (x : A) → slice_get xs i ≡ Some x → drop i xs ≡ x ∷ drop (i + 1) xs
@@ -55,7 +54,6 @@ module _ (s : Seat) (before after : State) (line : Line) (rest : List Line) (a :
     (lines : lines_left s ≡ line ∷ rest)
     (does : rest_of line s.phase [] ≡ Do a)
     (acts : act s.part.actor a before ≡ record { outcome = o; state = after }) where
-
   -- the program has come to the action
   comes_to : (p : Progress) → Stands s p → program p.actor line p.outcomes ≡ Do a
   comes_to p st =
@@ -72,11 +70,11 @@ module _ (s : Seat) (before after : State) (line : Line) (rest : List Line) (a :
 
   -- the turn, by what comes next
   turned : (p : Progress) → Stands s p → (n : Next) → rest_of line s.phase (o ∷ []) ≡ n
-    → turn before p ≡ Some (turn_to p rest a (record { outcome = o; state = after }) n)
+      → turn before p ≡ Some (turn_to p rest a (record { outcome = o; state = after }) n)
   turned p st n next =
       let e : program p.actor line (p.outcomes ++ o ∷ []) ≡ n =
-            ap (λ x. program x line (p.outcomes ++ o ∷ [])) st.actor
-            ∙ ap (λ xs. program s.part.actor line xs) (sym (append-nil (p.outcomes ++ o ∷ []))) ∙ goes_on p st [] ∙ next in
+      ap (λ x. program x line (p.outcomes ++ o ∷ [])) st.actor
+      ∙ ap (λ xs. program s.part.actor line xs) (sym (append-nil (p.outcomes ++ o ∷ []))) ∙ goes_on p st [] ∙ next in
       let t : act p.actor a before ≡ record { outcome = o; state = after } = ap (λ x. act x a before) st.actor ∙ acts in
       ap (λ ls. turn_at before p ls) (st.left ∙ lines)
       ∙ ap (λ n. turn_by before p line rest n) (comes_to p st)
@@ -85,17 +83,19 @@ module _ (s : Seat) (before after : State) (line : Line) (rest : List Line) (a :
 
 -- a turn after which the line goes on at another phase
 pub line_goes_on : (s : Seat) (before after : State) (line : Line) (rest : List Line) (a : Action) (o : Outcome) (phase : Phase)
-  → IsSeat s → lines_left s ≡ line ∷ rest → rest_of line s.phase [] ≡ Do a
-  → act s.part.actor a before ≡ record { outcome = o; state = after }
-  → ((os : List Outcome) → rest_of line s.phase (o ∷ os) ≡ rest_of line phase os)
-  → IsAtPhase line phase → phase_left phase < phase_left s.phase
-  → TakesTurn s before o None (record s { phase = phase }) after
+    → IsSeat s → lines_left s ≡ line ∷ rest → rest_of line s.phase [] ≡ Do a
+    → act s.part.actor a before ≡ record { outcome = o; state = after }
+    → ((os : List Outcome) → rest_of line s.phase (o ∷ os) ≡ rest_of line phase os)
+    → IsAtPhase line phase → phase_left phase < phase_left s.phase
+    → TakesTurn s before o None (record s { phase = phase }) after
 line_goes_on s before after line rest a o phase seat lines does acts fed at_phase nearer =
     let next = at_phase_does line phase at_phase in
     record {
       still = refl;
       seat = record {
-        built = seat.built; few = seat.few; done = seat.done;
+        built = seat.built;
+        few = seat.few;
+        done = seat.done;
         at_line = let P : List Line → Type 0 = λ ls. IsAtLine ls phase in subst P (sym lines) at_phase;
       };
       nearer = omega arith;
@@ -103,12 +103,18 @@ line_goes_on s before after line rest a o phase seat lines does acts fed at_phas
       turns = λ p st. (
         turn_to p rest a (record { outcome = o; state = after }) (Do next.0),
         turned s before after line rest a o lines does acts p st (Do next.0) (fed [] ∙ next.1),
-        ap (λ n. n + 1) st.done, refl, refl, refl,
+        ap (λ n. n + 1) st.done,
+        refl,
+        refl,
+        refl,
         record {
-          actor = st.actor; done = st.done; left = st.left;
+          actor = st.actor;
+          done = st.done;
+          left = st.left;
           outcomes = let P : List Line → Type 0 = λ ls. StandsFor s.part.actor ls phase (p.outcomes ++ o ∷ []) in
-            subst P (sym lines) (λ os. goes_on s before after line rest a o lines does acts p st os ∙ fed os);
-        });
+              subst P (sym lines) (λ os. goes_on s before after line rest a o lines does acts p st os ∙ fed os);
+        },
+      );
     }
 
 begins_left : (actor : Actor) (lines : List Line) (phase : Phase) → Begins actor lines phase → phase_left phase + sum_by most_steps (drop 1 lines) ≤ sum_by most_steps lines
@@ -125,11 +131,11 @@ begins_for actor (line ∷ lines) phase h = h.1
 
 -- a turn after which the line has its reply, and the section goes to its next line
 pub line_is_done : (s : Seat) (before after : State) (line : Line) (rest : List Line) (a : Action) (o : Outcome) (reply : Reply) (phase : Phase)
-  → IsSeat s → s.done < length s.part.lines → lines_left s ≡ line ∷ rest → rest ≡ drop (s.done + 1) s.part.lines → rest_of line s.phase [] ≡ Do a
-  → act s.part.actor a before ≡ record { outcome = o; state = after }
-  → ((os : List Outcome) → rest_of line s.phase (o ∷ os) ≡ Say reply)
-  → Begins s.part.actor (drop (s.done + 1) s.part.lines) phase → IsAtPhase line s.phase
-  → TakesTurn s before o (Some reply) (record s { done = s.done + 1; phase = phase }) after
+    → IsSeat s → s.done < length s.part.lines → lines_left s ≡ line ∷ rest → rest ≡ drop (s.done + 1) s.part.lines → rest_of line s.phase [] ≡ Do a
+    → act s.part.actor a before ≡ record { outcome = o; state = after }
+    → ((os : List Outcome) → rest_of line s.phase (o ∷ os) ≡ Say reply)
+    → Begins s.part.actor (drop (s.done + 1) s.part.lines) phase → IsAtPhase line s.phase
+    → TakesTurn s before o (Some reply) (record s { done = s.done + 1; phase = phase }) after
 line_is_done s before after line rest a o reply phase seat more lines later does acts fed begins at_phase =
     let here = at_phase_left line s.phase at_phase in
     let less = begins_left s.part.actor (drop (s.done + 1) s.part.lines) phase begins in
@@ -142,45 +148,55 @@ line_is_done s before after line rest a o reply phase seat more lines later does
       turns = λ p st. (
         turn_to p rest a (record { outcome = o; state = after }) (Say reply),
         turned s before after line rest a o lines does acts p st (Say reply) (fed []),
-        ap (λ n. n + 1) st.done, refl, refl, refl,
+        ap (λ n. n + 1) st.done,
+        refl,
+        refl,
+        refl,
         record {
-          actor = st.actor; done = ap (λ n. n + 1) st.done; left = later;
+          actor = st.actor;
+          done = ap (λ n. n + 1) st.done;
+          left = later;
           outcomes = begins_for s.part.actor (drop (s.done + 1) s.part.lines) phase begins;
-        });
+        },
+      );
     }
 
 -- a section whose next line goes on alike has not changed
 pub stays_seated : (s : Seat) (line : Line) (rest : List Line) (phase : Phase) → IsSeat s → lines_left s ≡ line ∷ rest
-  → GoesOnAlike line s.phase phase → StaysSeated s (record s { phase = phase })
+    → GoesOnAlike line s.phase phase → StaysSeated s (record s { phase = phase })
 stays_seated s line rest phase seat lines alike =
     record {
       still = refl;
       done = refl;
       seat = record {
-        built = seat.built; few = seat.few; done = seat.done;
+        built = seat.built;
+        few = seat.few;
+        done = seat.done;
         at_line = let P : List Line → Type 0 = λ ls. IsAtLine ls phase in subst P (sym lines) alike.at_phase;
       };
       left = ap (λ n. n + sum_by most_steps (drop (s.done + 1) s.part.lines)) alike.left;
       stands = λ p st. record {
-        actor = st.actor; done = st.done; left = st.left;
+        actor = st.actor;
+        done = st.done;
+        left = st.left;
         outcomes =
-          let P : List Line → Type 0 = λ ls. StandsFor s.part.actor ls phase p.outcomes in
-          let Q : List Line → Type 0 = λ ls. StandsFor s.part.actor ls s.phase p.outcomes in
-          subst P (sym lines) (λ os. subst Q lines st.outcomes os ∙ sym (alike.rest os));
+            let P : List Line → Type 0 = λ ls. StandsFor s.part.actor ls phase p.outcomes in
+            let Q : List Line → Type 0 = λ ls. StandsFor s.part.actor ls s.phase p.outcomes in
+            subst P (sym lines) (λ os. subst Q lines st.outcomes os ∙ sym (alike.rest os));
       };
     }
 
 -- the line at a place begins there
 pub begins_by : (actor : Actor) (lines : List Line) (done : ℕ) (line : Line) (phase : Phase) → slice_get lines done ≡ Some line
-  → IsAtPhase line phase → ((os : List Outcome) → program actor line os ≡ rest_of line phase os) → phase_left phase ≤ most_steps line
-  → Begins actor (drop done lines) phase
+    → IsAtPhase line phase → ((os : List Outcome) → program actor line os ≡ rest_of line phase os) → phase_left phase ≤ most_steps line
+    → Begins actor (drop done lines) phase
 begins_by actor lines done line phase here at_phase starts few =
     let P : List Line → Type 0 = λ ls. Begins actor ls phase in
     subst P (sym (drop-slice_get lines done line here)) (at_phase, starts, few)
 
 -- where a section stands at a line, that line is the first of those left
 pub line_here : (s : Seat) (lines : List Line) (line : Line) → s.part.lines ≡ lines → slice_get lines s.done ≡ Some line
-  → lines_left s ≡ line ∷ drop (s.done + 1) s.part.lines
+    → lines_left s ≡ line ∷ drop (s.done + 1) s.part.lines
 line_here s lines line same here = drop-slice_get s.part.lines s.done line (ap (λ ls. slice_get ls s.done) same ∙ here)
 
 -- and is at the section's phase

@@ -1,19 +1,16 @@
 -- Laws of the seats at the start.
-use Rattle.std.proofs.Common.{◌≡◌, ℕ, zero, suc, ◌+◌, ◌*◌, ◌<◌, ◌≤◌, List, [], ◌∷◌, ◌++◌, length, take, map, sum_by, slice_get, get_or, Some, refl, sym, ap, ◌∙◌, subst, arith, IsTrue}
-use Rattle.std.proofs.lemmas.List.{map-append, map_push, length-map, take_more}
+use Rattle.std.proofs.Common.{◌≡◌, ℕ, zero, suc, ◌+◌, ◌*◌, ◌≤◌, List, [], ◌∷◌, ◌++◌, length, map, sum_by, slice_get, Some, refl, sym, ap, ◌∙◌, subst, arith}
+use Rattle.std.proofs.lemmas.List.{map_push}
 use Rattle.std.proofs.lemmas.List.Sums.{sum_by-cons, sum_by_push}
-use Rattle.std.specs.List.{list_all}
 use Rattle.argo_model.specs.declared.seat.Seat.{Seat}
 use Rattle.argo_model.specs.declared.line.Line.{Line}
 use Rattle.argo_model.specs.declared.line.Line.TheVariants.{Store, Load, Op, Await, Recv, Destroy, Reset, Create}
 use Rattle.argo_model.specs.Script.{Section, turns_of}
-use Rattle.argo_model.specs.Built.{is_built_section}
 use Rattle.argo_model.specs.Steps.{most_steps}
 use Rattle.argo_model.specs.Run.{Progress, at_first_line}
 use Rattle.argo_model.specs.Seat.{IsSeat, Stands, seat_left}
-use Rattle.argo_model.specs.Machine.{AllStand, sections_of}
+use Rattle.argo_model.specs.Machine.{AllStand}
 use Rattle.argo_model.specs.Seats.{most_of, AreSeatsOf}
-use Rattle.argo_model.proofs.LineLaws.{list_all-at}
 
 all_stand-push : (ss : List Seat) (ps : List Progress) (s : Seat) (p : Progress) → AllStand ss ps → IsSeat s → Stands s p → AllStand (ss ++ s ∷ []) (ps ++ p ∷ [])
 all_stand-push [] [] s p all seat stands = (seat, stands, tt)
@@ -27,12 +24,12 @@ no_seats = record { sections_are = refl; stand = tt; left = omega arith }
 
 -- one seat more
 pub one_seat_more : (ss : List Seat) (xs : List Section) (s : Seat) → AreSeatsOf ss xs → IsSeat s → Stands s (at_first_line s.part) → seat_left s ≤ most_of s.part
-  → AreSeatsOf (ss ++ s ∷ []) (xs ++ s.part ∷ [])
+    → AreSeatsOf (ss ++ s ∷ []) (xs ++ s.part ∷ [])
 one_seat_more ss xs s are seat stands left =
     record {
       sections_are = map_push (λ y. y.part) ss s ∙ ap (λ ys. ys ++ s.part ∷ []) are.sections_are;
       stand = let P : List Progress → Type 0 = λ ps. AllStand (ss ++ s ∷ []) ps in
-        subst P (sym (map_push at_first_line xs s.part)) (all_stand-push ss (map at_first_line xs) s (at_first_line s.part) are.stand seat stands);
+          subst P (sym (map_push at_first_line xs s.part)) (all_stand-push ss (map at_first_line xs) s (at_first_line s.part) are.stand seat stands);
       left = rw (sum_by_push, sum_by_push) (omega (arith, are.left));
     }
 

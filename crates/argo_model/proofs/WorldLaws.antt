@@ -1,11 +1,10 @@
 -- Laws of actions that change one domain alone.
-use Rattle.std.proofs.Common.{◌≡◌, ◌≢◌, ℕ, Some, None, Option, List, refl, sym, ap, ◌∙◌, cond, eqb, Bool, true, false, if◌then◌else◌}
+use Rattle.std.proofs.Common.{◌≡◌, ◌≢◌, ℕ, Some, None, List, refl, sym, ap, ◌∙◌, cond, Bool, true, false, if◌then◌else◌}
 use Rattle.std.proofs.lemmas.Bool.Decides.{nat_tests}
 use Rattle.std.proofs.Common.{arith}
 use Rattle.std.proofs.lemmas.Map.Steps.{set_value_same}
 use Rattle.std.specs.Ordering.{nat_cmp}
 use Rattle.std.specs.BTreeMap.{is_at}
-use Rattle.argo_model.specs.declared.scripts.Actor.TheVariants.{Vcpu}
 use Rattle.argo_model.specs.declared.action.Action.{Action}
 use Rattle.argo_model.specs.declared.action.Action.TheVariants.{Put}
 use Rattle.argo_model.specs.declared.action.Outcome.{Outcome}
@@ -13,7 +12,7 @@ use Rattle.argo_model.specs.declared.action.Outcome.TheVariants.{Done, Fault, Go
 use Rattle.argo_model.specs.declared.state.Domain.{Domain}
 use Rattle.argo_model.specs.declared.state.Live.{Live}
 use Rattle.argo_model.specs.State.{State, domain_of, set_domain, set_live, life_in, has_page}
-use Rattle.argo_model.specs.Act.{Told, told, act, act_of, act_if_there, act_if_live, put_into}
+use Rattle.argo_model.specs.Act.{told, act_of, act_if_there, act_if_live, put_into}
 use Rattle.argo_model.specs.World.{ActsAlone}
 
 -- a domain put back as it was changes nothing
@@ -37,13 +36,13 @@ acts_alone_gone g a x dead s d e =
 
 -- who lives performs the action
 pub acts_alone : (g : ℕ) (a : Action) (x : Domain) (live : Live) (o : Outcome) (new : Domain) → life_in g x ≡ Some live
-  → ((s : State) (d : ℕ) → act_of s d x live a ≡ record { outcome = o; state = set_domain s d new }) → ActsAlone g a x o new
+    → ((s : State) (d : ℕ) → act_of s d x live a ≡ record { outcome = o; state = set_domain s d new }) → ActsAlone g a x o new
 acts_alone g a x live o new lives does s d e =
     ap (λ o. act_if_there s d g o a) e ∙ ap (λ o. act_if_live s d x o a) lives ∙ does s d
 
 -- an action that changes nothing
 pub acts_alone_still : (g : ℕ) (a : Action) (x : Domain) (live : Live) (o : Outcome) → life_in g x ≡ Some live
-  → ((s : State) (d : ℕ) → act_of s d x live a ≡ told o s) → ActsAlone g a x o x
+    → ((s : State) (d : ℕ) → act_of s d x live a ≡ told o s) → ActsAlone g a x o x
 acts_alone_still g a x live o lives does s d e =
     ap (λ o. act_if_there s d g o a) e ∙ ap (λ o. act_if_live s d x o a) lives ∙ does s d
     ∙ ap (λ t. told o t) (sym (set_domain-same s d x e))
@@ -54,21 +53,21 @@ life_again x live e = ap (λ l. record x { life = l }) (sym e)
 
 -- an action that changes nothing, of a domain that lives in the generation named
 pub acts_still : (g : ℕ) (a : Action) (x : Domain) (live : Live) (o : Outcome) → x.generation ≡ g → x.life ≡ Some live
-  → ((s : State) (d : ℕ) → act_of s d x live a ≡ told o s) → ActsAlone g a x o (record x { life = Some live })
+    → ((s : State) (d : ℕ) → act_of s d x live a ≡ told o s) → ActsAlone g a x o (record x { life = Some live })
 acts_still g a x live o same lives does s d e =
     acts_alone_still g a x live o (life_in-own g x same ∙ lives) does s d e
     ∙ ap (λ y. record { outcome = o; state = set_domain s d y }) (sym (life_again x live lives))
 
 -- a put, which changes the memory and the rings where the page is there
 put_cases : (s : State) (d : ℕ) (x : Domain) (live new : Live) (b : Bool) → domain_of s d ≡ Some x → x.life ≡ Some live
-  → cond b (record { outcome = Done; state = set_live s d x new }) (told Fault s)
+    → cond b (record { outcome = Done; state = set_live s d x new }) (told Fault s)
     ≡ record { outcome = cond b Done Fault; state = set_live s d x (cond b new live) }
 put_cases s d x live new true e lives = refl
 put_cases s d x live new false e lives =
     ap (λ t. told Fault t) (sym (ap (λ y. set_domain s d y) (life_again x live lives) ∙ set_domain-same s d x e))
 
 pub acts_put : (g : ℕ) (x : Domain) (live : Live) (page off : ℕ) (bytes : List ℕ) → x.generation ≡ g → x.life ≡ Some live
-  → ActsAlone g (Put page off bytes) x (if has_page live page then Done else Fault) (record x { life = Some (if has_page live page then put_into live page off bytes else live) })
+    → ActsAlone g (Put page off bytes) x (if has_page live page then Done else Fault) (record x { life = Some (if has_page live page then put_into live page off bytes else live) })
 acts_put g x live page off bytes same lives s d e =
     ap (λ o. act_if_there s d g o (Put page off bytes)) e
     ∙ ap (λ o. act_if_live s d x o (Put page off bytes)) (life_in-own g x same ∙ lives)

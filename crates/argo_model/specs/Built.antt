@@ -1,5 +1,5 @@
 -- What the machine performs of all that a script can say, until the rest of it is built.
-use Rattle.std.specs.Prelude.{ℕ, ◌+◌, Bool, true, false, ◌&&◌, nat_le, length}
+use Rattle.std.specs.Prelude.{◌+◌, Bool, true, false, nat_le, length}
 use Rattle.std.specs.List.{list_all}
 use Rattle.argo_model.specs.declared.action.Action.{Action}
 use Rattle.argo_model.specs.declared.action.Action.TheVariants.{Rest, Fetch, Put, Register, Unregister, Deliver, Sweep, Query, Look, Destroy, Reset, Create}

@@ -1,5 +1,5 @@
 -- What is left of a range.
-use Rattle.std.specs.Prelude.{ℕ, ◌+◌, ◌*◌, ◌^◌, ◌<◌, ◌≤◌, List}
+use Rattle.std.specs.Prelude.{◌+◌, ◌*◌, ◌^◌, ◌<◌, ◌≤◌, List}
 use Rattle.argo_base.specs.declared.piece.Piece.{Piece}
 use Rattle.argo_base.specs.Pieces.{pieces}
 use Rattle.argo_model.specs.declared.cursor.Cursor.{Cursor}

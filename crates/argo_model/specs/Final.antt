@@ -3,7 +3,7 @@ use Rattle.std.specs.Prelude.{ℕ, ◌+◌, ◌*◌, Bool, true, false, ◌==◌
 use Rattle.std.specs.List.{range_with_len}
 use Rattle.argo_base.specs.declared.ring_key.RingKey.{RingKey}
 use Rattle.argo_model.specs.declared.action.Outcome.{Outcome}
-use Rattle.argo_model.specs.declared.action.Outcome.TheVariants.{Done, Bytes, Fault, Refused, Accepted, Swept, NoMore, Answer, Flag, Gone}
+use Rattle.argo_model.specs.declared.action.Outcome.TheVariants.{Accepted}
 use Rattle.argo_model.specs.declared.reply.Reply.{Reply}
 use Rattle.argo_model.specs.declared.closing.Run.{Run}
 use Rattle.argo_model.specs.declared.closing.DoneLine.{DoneLine}
@@ -16,7 +16,6 @@ use Rattle.argo_model.specs.declared.state.Ring.{Ring}
 use Rattle.argo_model.specs.declared.state.Live.{Live}
 use Rattle.argo_model.specs.declared.state.Domain.{Domain}
 use Rattle.argo_model.specs.Script.{Script}
-use Rattle.argo_model.specs.State.{State}
 use Rattle.argo_model.specs.Run.{Step, Course, run}
 
 -- one step more after the runs: the last of them grows, or a new one begins
@@ -97,7 +96,11 @@ notice_line_of n = record { dom = n.0; size = n.1 }
 abbrev pub final_ring : List ℕ → RingKey × Ring → FinalRing
 final_ring memory e =
     record {
-      key = e.0; len = e.1.len; tx = e.1.tx; clean = e.1.clean; untaken = e.1.untaken;
+      key = e.0;
+      len = e.1.len;
+      tx = e.1.tx;
+      clean = e.1.clean;
+      untaken = e.1.untaken;
       notices = map notice_line_of e.1.notices;
       slots = slots_of memory e.1;
     }
@@ -107,7 +110,11 @@ abbrev pub final_life : ℕ → Domain → Option Live → FinalDomain
 final_life d x None = record { id = d; on = x.on; alive = false; generation = x.generation; flag = false; rings = [] }
 final_life d x (Some live) =
     record {
-      id = d; on = x.on; alive = true; generation = x.generation; flag = live.flag;
+      id = d;
+      on = x.on;
+      alive = true;
+      generation = x.generation;
+      flag = live.flag;
       rings = map (final_ring live.bytes) live.rings;
     }
 

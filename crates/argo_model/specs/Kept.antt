@@ -1,12 +1,12 @@
 -- What a machine keeps of a run, and how a step changes it.
-use Rattle.std.specs.Prelude.{◌≡◌, ℕ, ◌+◌, ◌<◌, List, [], ◌∷◌, ◌++◌, length, sum_by, Option, Some, slice_get, option_map}
+use Rattle.std.specs.Prelude.{◌≡◌, ℕ, ◌<◌, List, [], ◌∷◌, ◌++◌, length, sum_by, Some, slice_get, option_map}
 use Rattle.argo_model.specs.declared.machine.Kept.{Kept}
 use Rattle.argo_model.specs.declared.seat.Seat.{Seat}
 use Rattle.argo_model.specs.declared.action.Outcome.{Outcome}
 use Rattle.argo_model.specs.Final.{schedule_of}
 use Rattle.argo_model.specs.Run.{Course, step, next_turn}
 use Rattle.argo_model.specs.Seat.{IsSeat, seat_left}
-use Rattle.argo_model.specs.Machine.{KeepsCourse, AreSmall, sections_of}
+use Rattle.argo_model.specs.Machine.{KeepsCourse, sections_of}
 
 -- it is what the run comes to
 abbrev pub Keeps : Kept → Course → Type 0

@@ -1,15 +1,12 @@
 -- How far a line is, as the machine keeps it in place of all the line's outcomes.
-use Rattle.std.specs.Prelude.{◌≡◌, ℕ, ◌+◌, ◌-◌, ◌*◌, ◌<◌, ◌≤◌, List, [], ◌∷◌, ◌++◌, length, drop, Option, Some, None, vec_len, vec_capacity}
-use Rattle.argo_model.specs.declared.cursor.Cursor.{Cursor}
+use Rattle.std.specs.Prelude.{◌≡◌, ℕ, ◌+◌, ◌<◌, ◌≤◌, List, length, Option, Some, None, vec_len, vec_capacity}
 use Rattle.argo_model.specs.Cursor.{pieces_left, IsSound}
 use Rattle.argo_model.specs.declared.phase.Phase.{Phase}
 use Rattle.argo_model.specs.declared.phase.Phase.TheVariants.{Putting, Fetching, Ended}
 use Rattle.argo_model.specs.declared.line.Line.{Line}
-use Rattle.argo_model.specs.declared.line.Line.TheVariants.{Store, Load, Op, Await, Recv, Destroy, Reset, Create}
-use Rattle.argo_model.specs.declared.action.Action.{Action}
-use Rattle.argo_model.specs.declared.action.Action.TheVariants.{Rest, Fetch}
+use Rattle.argo_model.specs.declared.line.Line.TheVariants.{Store, Load}
+use Rattle.argo_model.specs.declared.action.Action.TheVariants.{Rest}
 use Rattle.argo_model.specs.declared.action.Outcome.{Outcome}
-use Rattle.argo_model.specs.declared.action.Outcome.TheVariants.{Bytes}
 use Rattle.argo_model.specs.declared.reply.Reply.{Reply}
 use Rattle.argo_model.specs.declared.reply.Reply.TheVariants.{Stored, Hex, Fault}
 use Rattle.argo_model.specs.Given.{GivesAsked}

@@ -1,5 +1,5 @@
 -- One outcome of a range that is put or fetched piece by piece.
-use Rattle.std.specs.Prelude.{◌≡◌, ℕ, ◌-◌, ◌<◌, ◌≤◌, List, [], ◌∷◌, length, drop, ◌+◌, ◌==◌, if◌then◌else◌}
+use Rattle.std.specs.Prelude.{◌≡◌, ℕ, ◌-◌, ◌<◌, ◌≤◌, List, ◌∷◌, length, drop, ◌+◌, ◌==◌, if◌then◌else◌}
 use Rattle.argo_base.specs.declared.piece.Piece.{Piece}
 use Rattle.argo_model.specs.declared.cursor.Cursor.{Cursor}
 use Rattle.argo_model.specs.declared.ranges.Moved.{Moved}
@@ -40,11 +40,11 @@ abbrev pub PutMoves : Cursor → Outcome → Moved → Cursor → Type 0
 PutMoves old o moved new =
     (bytes : List ℕ) (failed : Next) (k : Rests) (os : List Outcome) → old.left ≤ length bytes
     → put_all (pieces_left old) (last_of old.left bytes) failed k (o ∷ os)
-      ≡ moved_to moved (put_all (pieces_left new) (last_of new.left bytes) failed k os) (k os) failed
+    ≡ moved_to moved (put_all (pieces_left new) (last_of new.left bytes) failed k os) (k os) failed
 
 -- and a fetch, where `old_got` was fetched before and `new_got` is now
 abbrev pub FetchMoves : Cursor → List ℕ → Outcome → Moved → Cursor → List ℕ → Type 0
 FetchMoves old old_got o moved new new_got =
     (failed : Next) (k : List ℕ → Rests) (os : List Outcome)
     → fetch_all (pieces_left old) old_got failed k (o ∷ os)
-      ≡ moved_to moved (fetch_all (pieces_left new) new_got failed k os) (k new_got os) failed
+    ≡ moved_to moved (fetch_all (pieces_left new) new_got failed k os) (k new_got os) failed

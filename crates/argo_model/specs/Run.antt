@@ -53,12 +53,20 @@ pub record Turn : Type 0 where
 abbrev pub turn_to : Progress → List Line → Action → Told → Next → Turn
 turn_to p rest a t (Do next) =
     record {
-      line = p.done + 1; action = a; outcome = t.outcome; reply = None; state = t.state;
+      line = p.done + 1;
+      action = a;
+      outcome = t.outcome;
+      reply = None;
+      state = t.state;
       progress = record p { outcomes = p.outcomes ++ t.outcome ∷ [] };
     }
 turn_to p rest a t (Say reply) =
     record {
-      line = p.done + 1; action = a; outcome = t.outcome; reply = Some reply; state = t.state;
+      line = p.done + 1;
+      action = a;
+      outcome = t.outcome;
+      reply = Some reply;
+      state = t.state;
       progress = record p { done = p.done + 1; left = rest; outcomes = [] };
     }
 

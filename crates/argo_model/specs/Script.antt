@@ -1,5 +1,5 @@
 -- What a script is, and the rules that every script keeps.
-use Rattle.std.specs.Prelude.{ℕ, ◌+◌, ◌%◌, ◌<◌, ◌≤◌, Bool, true, false, ◌&&◌, ◌||◌, not, ◌==◌, nat_lt, nat_le, if◌then◌else◌, List, [], ◌∷◌, length, map, sum_by, count_by}
+use Rattle.std.specs.Prelude.{ℕ, ◌%◌, Bool, true, false, ◌&&◌, ◌||◌, not, ◌==◌, nat_lt, nat_le, List, [], ◌∷◌, length, sum_by, count_by}
 use Rattle.std.specs.List.{list_all, list_any}
 use Rattle.argo_model.specs.declared.scripts.DomainLine.{DomainLine}
 use Rattle.argo_model.specs.declared.scripts.Actor.{Actor}

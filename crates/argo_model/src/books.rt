@@ -11,7 +11,11 @@ pub(crate) fn fresh_totals(alloc: Global, n: usize) -> Result<Vec<Totals>, NoMem
 {
     let mut totals = Vec::with_capacity(alloc, n)?;
     for _ in 0..n {
-        totals.push(Totals { steps: 0, accepted: 0, bytes: 0 })?;
+        totals.push(Totals {
+            steps: 0,
+            accepted: 0,
+            bytes: 0,
+        })?;
     }
     Ok(totals)
 }

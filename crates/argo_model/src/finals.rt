@@ -44,7 +44,10 @@ fn domain_of(alloc: Global, id: DomId, domain: Domain) -> Result<FinalDomain, No
         });
     };
     let Live {
-        bytes, flag, rings, ..
+        bytes,
+        flag,
+        rings,
+        ..
     } = live;
     Ok(FinalDomain {
         id,

@@ -56,9 +56,7 @@ impl Phase {
     {
         match (line, self) {
             (Line::Store { bytes, .. }, Phase::Putting(rest)) => {
-                let (_, left) = bytes
-                    .as_slice()
-                    .split_at(bytes.len() - rest.left as usize);
+                let (_, left) = bytes.as_slice().split_at(bytes.len() - rest.left as usize);
                 put_first(alloc, *rest, left)
             }
             (Line::Load { .. }, Phase::Fetching(rest, got)) => {
@@ -92,7 +90,10 @@ impl Phase {
             },
             Phase::Fetching(rest, got) => match fetch_moved(rest, got, outcome) {
                 Moved::More => None,
-                Moved::Whole => Some(Reply::Hex(Bytes::from_vec(mem::replace(got, Vec::new(alloc))))),
+                Moved::Whole => Some(Reply::Hex(Bytes::from_vec(mem::replace(
+                    got,
+                    Vec::new(alloc),
+                )))),
                 Moved::Failed => Some(Reply::Fault),
                 Moved::Ended => Some(Reply::Gone),
             },

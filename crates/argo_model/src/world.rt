@@ -63,12 +63,7 @@ impl World {
 
 impl Domain {
     // Performs an action of a section of this generation.
-    fn act(
-        &mut self,
-        alloc: Global,
-        generation: u32,
-        action: Action,
-    ) -> Result<Outcome, NoMemory>
+    fn act(&mut self, alloc: Global, generation: u32, action: Action) -> Result<Outcome, NoMemory>
         requires { IsTrue (is_built_action action) }
         ensures ok { IfOk result (λ o. ActsAlone generation action self.old o self.new) }
         ensures can { IfOk result (λ o. GivesAsked action o) }

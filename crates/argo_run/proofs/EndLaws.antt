@@ -1,10 +1,10 @@
 -- Laws of how a run ends.
-use Rattle.std.proofs.Common.{◌≡◌, ◌⊎◌, inl, inr, ℕ, ◌+◌, ◌<◌, ◌≤◌, Bool, true, false, cond, List, [], ◌∷◌, ◌++◌, length, Option, Some, None, Result, Ok, Err, refl, sym, ap, ◌∙◌, subst, arith, rules, nat_lt, unwrap_or}
+use Rattle.std.proofs.Common.{◌≡◌, ◌⊎◌, inl, inr, ℕ, ◌<◌, Bool, true, false, cond, List, ◌++◌, length, Option, Some, None, Result, Ok, Err, refl, sym, ap, ◌∙◌, subst, arith, nat_lt, unwrap_or}
 use Rattle.std.specs.List.{list_any}
 use Rattle.std.proofs.lemmas.Bool.Decides.{nat_tests}
 use Rattle.std.proofs.lemmas.List.{append-nil, length-append}
 use Rattle.argo_outside.specs.Source.{behind, IsAtEnd}
-use Rattle.argo_outside.specs.Sink.{appended, CutShort}
+use Rattle.argo_outside.specs.Sink.{appended}
 use Rattle.argo_model.specs.declared.closing.Final.{Final}
 use Rattle.argo_model.specs.Script.{Script}
 use Rattle.argo_model.specs.Report.{report_of}
@@ -21,38 +21,38 @@ use Rattle.argo_run.specs.Ends.{IsRead, IsNoScript, IfScript, Agrees, AgreesWith
 use Rattle.argo_run.specs.Serve.{WroteReport, RanScript, ServedFor}
 
 report_is : (seed : ℕ) (script : Script) (shown : Final) → IsRunByPicks script seed shown → IsReport seed script (report_of shown)
-report_is seed script shown ran = (ran.0 , ran.1 , ap report_of ran.2)
+report_is seed script shown ran = (ran.0, ran.1, ap report_of ran.2)
 
 ran_script : (seed : ℕ) (script : Script) (shown : Final) (written written_new : Option (List ℕ)) (rose : Type 0) (status : Status) → IsRunByPicks script seed shown
-  → WroteReport (report_of shown) written written_new rose status → RanScript seed script written written_new rose status
-ran_script seed script shown written written_new rose s.Done ran wrote = (report_of shown , report_is seed script shown ran , wrote)
+    → WroteReport (report_of shown) written written_new rose status → RanScript seed script written written_new rose status
+ran_script seed script shown written written_new rose s.Done ran wrote = (report_of shown, report_is seed script shown ran, wrote)
 ran_script seed script shown written written_new rose s.Usage ran wrote = absurd wrote
 ran_script seed script shown written written_new rose s.SourceFault ran wrote = absurd wrote
-ran_script seed script shown written written_new rose s.SinkFault ran wrote = (wrote.0 , (report_of shown , report_is seed script shown ran , wrote.1))
+ran_script seed script shown written written_new rose s.SinkFault ran wrote = (wrote.0, (report_of shown, report_is seed script shown ran, wrote.1))
 ran_script seed script shown written written_new rose (s.Script line kind) ran wrote = absurd wrote
 ran_script seed script shown written written_new rose s.NoMemory ran (inl same) = inl same
-ran_script seed script shown written written_new rose s.NoMemory ran (inr cut) = inr (report_of shown , report_is seed script shown ran , cut)
+ran_script seed script shown written written_new rose s.NoMemory ran (inr cut) = inr (report_of shown, report_is seed script shown ran, cut)
 
 -- the end of a run whose report was written
 pub served : (seed : ℕ) (text : List ℕ) (script : Script) (shown : Final) (written written_new : Option (List ℕ)) (rose : Type 0) (status : Status) → built_of text ≡ Ok script
-  → IsRunByPicks script seed shown → WroteReport (report_of shown) written written_new rose status → ServedFor seed (built_of text) written written_new rose status
+    → IsRunByPicks script seed shown → WroteReport (report_of shown) written written_new rose status → ServedFor seed (built_of text) written written_new rose status
 served seed text script shown written written_new rose status is ran wrote =
     let P : Result Script ScriptFault → Type 0 = λ given. ServedFor seed given written written_new rose status in
     subst P (sym is) (ran_script seed script shown written written_new rose status ran wrote)
 
 script_ends : (seed : ℕ) (given : Result Script ScriptFault) (written written_new : Option (List ℕ)) (rose : Type 0) (status : Status) → ServedFor seed given written written_new rose status
-  → IfScript status (λ f. (given ≡ Err f) × (written_new ≡ appended written (fault_text f)))
+    → IfScript status (λ f. (given ≡ Err f) × (written_new ≡ appended written (fault_text f)))
 script_ends seed given written written_new rose s.Done h = tt
 script_ends seed given written written_new rose s.Usage h = tt
 script_ends seed given written written_new rose s.SourceFault h = tt
 script_ends seed given written written_new rose s.SinkFault h = tt
 script_ends seed (Ok script) written written_new rose (s.Script line kind) h = absurd h
-script_ends seed (Err f) written written_new rose (s.Script line kind) h = (ap Err h.0 , h.1 ∙ ap (λ g. appended written (fault_text g)) h.0)
+script_ends seed (Err f) written written_new rose (s.Script line kind) h = (ap Err h.0, h.1 ∙ ap (λ g. appended written (fault_text g)) h.0)
 script_ends seed given written written_new rose s.NoMemory h = tt
 
 no_script : (left left_new written written_new : Option (List ℕ)) (read : List ℕ) (status : Status) → IsRead left left_new read
-  → IfScript status (λ f. (built_of read ≡ Err f) × (written_new ≡ appended written (fault_text f)))
-  → IfScript status (λ f. IsNoScript f left left_new written written_new)
+    → IfScript status (λ f. (built_of read ≡ Err f) × (written_new ≡ appended written (fault_text f)))
+    → IfScript status (λ f. IsNoScript f left left_new written written_new)
 no_script left left_new written written_new read s.Done is_read h = tt
 no_script left left_new written written_new read s.Usage is_read h = tt
 no_script left left_new written written_new read s.SourceFault is_read h = tt
@@ -62,13 +62,13 @@ no_script left left_new written written_new read s.NoMemory is_read h = tt
 
 -- status 5
 pub ends_no_script : (seed : ℕ) (left left_new written written_new : Option (List ℕ)) (read : List ℕ) (rose : Type 0) (status : Status) → IsRead left left_new read
-  → ServedFor seed (built_of read) written written_new rose status → IfScript status (λ f. IsNoScript f left left_new written written_new)
+    → ServedFor seed (built_of read) written written_new rose status → IfScript status (λ f. IsNoScript f left left_new written written_new)
 ends_no_script seed left left_new written written_new read rose status is_read h =
     no_script left left_new written written_new read status is_read (script_ends seed (built_of read) written written_new rose status h)
 
 agrees : (seed : ℕ) (given : Result Script ScriptFault) (written written_new : Option (List ℕ)) (rose : Type 0) (status : Status) → ServedFor seed given written written_new rose status
-  → Agrees given status
-agrees seed (Ok script) written written_new rose s.Done h = (script , refl)
+    → Agrees given status
+agrees seed (Ok script) written written_new rose s.Done h = (script, refl)
 agrees seed (Err f) written written_new rose s.Done h = absurd h
 agrees seed (Ok script) written written_new rose s.Usage h = absurd h
 agrees seed (Err f) written written_new rose s.Usage h = absurd h
@@ -108,13 +108,13 @@ pub same_answer : (left left_new : Option (List ℕ)) (text read : List ℕ) →
 same_answer left left_new text read is_read here = ended text left_new read (sym is_read.told ∙ here) is_read.all
 
 pub ends_agreeing : (seed : ℕ) (left left_new written written_new : Option (List ℕ)) (text : List ℕ) (rose : Type 0) (status : Status) → IsRead left left_new text
-  → ServedFor seed (built_of text) written written_new rose status → AgreesWith left status
+    → ServedFor seed (built_of text) written written_new rose status → AgreesWith left status
 ends_agreeing seed left left_new written written_new text rose status is_read h = λ read here.
     let P : Result Script ScriptFault → Type 0 = λ given. Agrees given status in
     subst P (sym (same_answer left left_new text read is_read here)) (agrees seed (built_of text) written written_new rose status h)
 
 complete : (seed : ℕ) (script : Script) (written written_new : Option (List ℕ)) (rose : Type 0) (status : Status) → RanScript seed script written written_new rose status → (rose → ⊥)
-  → (status ≡ s.Done) ⊎ (status ≡ s.NoMemory)
+    → (status ≡ s.Done) ⊎ (status ≡ s.NoMemory)
 complete seed script written written_new rose s.Done h still = inl refl
 complete seed script written written_new rose s.Usage h still = absurd h
 complete seed script written written_new rose s.SourceFault h still = absurd h
@@ -123,7 +123,7 @@ complete seed script written written_new rose (s.Script line kind) h still = abs
 complete seed script written written_new rose s.NoMemory h still = inr refl
 
 pub ends_complete : (seed : ℕ) (left left_new written written_new : Option (List ℕ)) (text : List ℕ) (source_rose rose : Type 0) (status : Status) → IsRead left left_new text
-  → ServedFor seed (built_of text) written written_new rose status → IsComplete left source_rose rose status
+    → ServedFor seed (built_of text) written written_new rose status → IsComplete left source_rose rose status
 ends_complete seed left left_new written written_new text source_rose rose status is_read h = λ read script here is source_still still.
     let P : Result Script ScriptFault → Type 0 = λ given. ServedFor seed given written written_new rose status in
     complete seed script written written_new rose status (subst P (sym (same_answer left left_new text read is_read here) ∙ is) h) still

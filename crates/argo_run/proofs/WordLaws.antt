@@ -1,5 +1,5 @@
 -- Laws of the words of the command line.
-use Rattle.std.proofs.Common.{◌≡◌, ℕ, zero, suc, ◌+◌, ◌-◌, ◌*◌, ◌^◌, ◌<◌, ◌≤◌, Bool, true, false, ◌&&◌, cond, nat_le, nat_lt, List, [], ◌∷◌, length, take, get_or, fold, Option, Some, None, refl, sym, ap, ◌∙◌, arith, if◌then◌else◌}
+use Rattle.std.proofs.Common.{◌≡◌, ℕ, zero, suc, ◌+◌, ◌-◌, ◌*◌, ◌^◌, ◌<◌, ◌≤◌, Bool, true, false, ◌&&◌, cond, nat_le, nat_lt, List, [], ◌∷◌, length, take, get_or, fold, Some, None, refl, sym, ap, arith, if◌then◌else◌}
 use Rattle.std.specs.List.{list_all}
 use Rattle.std.proofs.lemmas.Bool.Decides.{nat_tests}
 use Rattle.argo_run.specs.Words.{is_digit, number_of, is_seed}
@@ -28,7 +28,7 @@ not_less n large = grind (arith, nat_tests)
 
 -- a word whose first digits spell too large a number already is no seed
 pub no_seed : (word : List ℕ) (k x : ℕ) → k < length word → 2 ^ 64 ≤ 10 * number_of (take k word) + (get_or word k x - 48)
-  → None ≡ (if is_seed word then Some (number_of word) else None)
+    → None ≡ (if is_seed word then Some (number_of word) else None)
 no_seed word k x inside large =
     let h : 2 ^ 64 ≤ number_of word = omega (arith, large, one_more 0 k word x inside) in
     let e : nat_lt (number_of word) (2 ^ 64) ≡ false = not_less (number_of word) h in

@@ -1,8 +1,7 @@
 -- How a run ends: what stands with each status.
-use Rattle.std.specs.Prelude.{◌≡◌, ℕ, ◌+◌, ◌⊎◌, List, length, map, Result, Ok, Err, Option, Some, None, Vec, String, ⊤}
+use Rattle.std.specs.Prelude.{◌≡◌, ℕ, ◌⊎◌, List, length, map, Result, Ok, Err, Option, Some, None, Vec, String, ⊤}
 use Rattle.std.specs.Global.{Global}
 use Rattle.std.specs.String.{string_bytes}
-use Rattle.argo_outside.specs.Faults.{Rose}
 use Rattle.argo_outside.specs.Source.{behind, IsAtEnd}
 use Rattle.argo_outside.specs.Sink.{appended, CutShort}
 use Rattle.argo_model.specs.Script.{Script}

@@ -1,6 +1,5 @@
 -- What the parts of a run promise.
 use Rattle.std.specs.Prelude.{◌≡◌, ℕ, ◌⊎◌, List, Result, Ok, Err, Option, ⊤}
-use Rattle.argo_outside.specs.Faults.{Rose}
 use Rattle.argo_outside.specs.Sink.{appended, CutShort}
 use Rattle.argo_model.specs.Script.{Script}
 use Rattle.script_text.specs.declared.kind.ScriptFault.{ScriptFault}

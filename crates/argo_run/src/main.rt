@@ -7,13 +7,14 @@
 mod program;
 mod serial;
 mod status;
+#[cfg(test)]
+mod tests;
 mod words;
 
+use argo_outside::{StdSink, StdSource};
 pub use program::run;
 pub use serial::run_serial;
 pub use status::Status;
-
-use argo_outside::{StdSink, StdSource};
 use std::env;
 use std::io::{self, BufWriter, ErrorKind};
 use std::process::ExitCode;

@@ -22,12 +22,7 @@ const TOO_MANY_BYTES: u64 = 4_194_305;
 /// Reads a script, runs it by the picks of a seed, and writes its report, or the line of its fault.
 ///
 /// It waits for nobody, and always returns.
-pub fn run_serial<S: Source, K: Sink>(
-    alloc: Global,
-    seed: u64,
-    src: &mut S,
-    out: &mut K,
-) -> Status
+pub fn run_serial<S: Source, K: Sink>(alloc: Global, seed: u64, src: &mut S, out: &mut K) -> Status
     ensures source { S.faults src.old ≤ S.faults src.new }
     ensures sink { K.faults out.old ≤ K.faults out.new }
     ensures done { IfDone result

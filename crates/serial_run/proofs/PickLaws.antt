@@ -1,5 +1,5 @@
 -- Laws of the picks.
-use Rattle.std.proofs.Common.{◌≡◌, ℕ, zero, suc, ◌+◌, ◌<◌, ◌≤◌, Bool, true, false, cond, eqb, List, [], ◌∷◌, ◌++◌, length, take, filter, slice_get, get_or, IsTrue, Option, Some, None, refl, sym, ap, ◌∙◌, subst, arith, rules, unwrap_or, ⊎_elim}
+use Rattle.std.proofs.Common.{◌≡◌, ℕ, zero, suc, ◌+◌, ◌<◌, ◌≤◌, Bool, true, false, cond, eqb, List, [], ◌∷◌, ◌++◌, length, take, filter, slice_get, get_or, IsTrue, Some, refl, sym, ap, ◌∙◌, arith, rules, unwrap_or, ⊎_elim}
 use Rattle.std.specs.List.{list_all, range_with_len}
 use Rattle.std.proofs.lemmas.Bool.{cases_lt}
 use Rattle.std.proofs.lemmas.Bool.Decides.{nat_tests}
@@ -36,7 +36,7 @@ filter-few p from (suc n) = cond-few (p from) from (filter p (range_with_len (fr
 
 cond-none : (b : Bool) (x : ℕ) (xs : List ℕ) → cond b (x ∷ xs) xs ≡ [] → (b ≡ false) × (xs ≡ [])
 cond-none true x xs none = let e : length (x ∷ xs) ≡ 0 = ap length none in absurd (omega arith)
-cond-none false x xs none = (refl , none)
+cond-none false x xs none = (refl, none)
 
 filter-none : (p : ℕ → Bool) (from n : ℕ) → filter p (range_with_len from n) ≡ [] → (i : ℕ) → i < n → p (from + i) ≡ false
 filter-none p from zero none i below = absurd (omega arith)
@@ -51,11 +51,11 @@ filter-none p from (suc n) none (suc i) below =
 pub all_finished : (c : Course) → open_sections c ≡ [] → IsTrue (list_all is_finished c.sections)
 all_finished c none =
     none_unfinished c.sections (λ v below.
-      let e : v ≡ 0 + v = omega arith in
-      ap (is_open c) e ∙ filter-none (is_open c) 0 (length c.sections) none v below)
+    let e : v ≡ 0 + v = omega arith in
+    ap (is_open c) e ∙ filter-none (is_open c) 0 (length c.sections) none v below)
 
 passes-here : (p : ℕ → Bool) (x : ℕ) (rest : List ℕ) (i v : ℕ) (b : Bool) → p x ≡ b → ((j : ℕ) → slice_get rest j ≡ Some v → p v ≡ true)
-  → slice_get (cond b (x ∷ rest) rest) i ≡ Some v → p v ≡ true
+    → slice_get (cond b (x ∷ rest) rest) i ≡ Some v → p v ≡ true
 passes-here p x rest i v false e later here = later i here
 passes-here p x rest zero v true e later here = ap p (sym (ap (λ o. unwrap_or o x) here)) ∙ e
 passes-here p x rest (suc i) v true e later here = later i here
@@ -93,35 +93,35 @@ pub one-more : (s : Script) (seed : ℕ) (schedule : List ℕ) (v : ℕ) → Eac
 one-more s seed schedule v each here i below =
     let n = length-append schedule (v ∷ []) in
     ⊎_elim
-      (λ lower. before-end schedule v i lower ∙ each i lower ∙ ap (next_pick s seed) (sym (take-append-le i schedule (v ∷ []) (omega (arith, lower)))))
-      (λ upper.
-        let last : i ≡ length schedule = omega (arith, n, upper, below) in
-        at-end schedule v i last ∙ sym here ∙ ap (next_pick s seed) (sym (take-end schedule v i last)))
-      (cases_lt i (length schedule))
+    (λ lower. before-end schedule v i lower ∙ each i lower ∙ ap (next_pick s seed) (sym (take-append-le i schedule (v ∷ []) (omega (arith, lower)))))
+    (λ upper.
+    let last : i ≡ length schedule = omega (arith, n, upper, below) in
+    at-end schedule v i last ∙ sym here ∙ ap (next_pick s seed) (sym (take-end schedule v i last)))
+    (cases_lt i (length schedule))
 
 -- the generator has turned once more
 pub number-turned : (seed number next v : ℕ) (schedule longer : List ℕ) → number ≡ number_after seed (length schedule) → next ≡ next_number number
-  → longer ≡ schedule ++ v ∷ [] → next ≡ number_after seed (length longer)
+    → longer ≡ schedule ++ v ∷ [] → next ≡ number_after seed (length longer)
 number-turned seed number next v schedule longer turned turns more =
     let n : length longer ≡ suc (length schedule) = ap length more ∙ length-append schedule (v ∷ []) ∙ omega arith in
     turns ∙ ap next_number turned ∙ sym (ap (number_after seed) n)
 
 -- what is read at the generator's place is the pick
 pub pick-made : (s : Script) (seed seed0 old number place count v : ℕ) (schedule vs : List ℕ) → old ≡ number_after seed (length schedule) → number ≡ next_number old
-  → seed0 ≡ seed → vs ≡ open_sections (run s schedule) → count ≡ length vs → place ≡ place_by seed0 number count → place < count → v ≡ get_or vs place v
-  → next_pick s seed schedule ≡ Some v
+    → seed0 ≡ seed → vs ≡ open_sections (run s schedule) → count ≡ length vs → place ≡ place_by seed0 number count → place < count → v ≡ get_or vs place v
+    → next_pick s seed schedule ≡ Some v
 pick-made s seed seed0 old number place count v schedule vs turned turns seeded ready counted here inside read =
     let e : length schedule + 1 ≡ suc (length schedule) = omega arith in
     let number_is : number ≡ number_after seed (length schedule + 1) = turns ∙ ap next_number turned ∙ sym (ap (number_after seed) e) in
     let same : place ≡ place_by seed (number_after seed (length schedule + 1)) (length (open_sections (run s schedule))) =
-      here ∙ ap (λ x. place_by x number count) seeded ∙ ap (λ n. place_by seed n count) number_is
-      ∙ ap (place_by seed (number_after seed (length schedule + 1))) (counted ∙ ap length ready) in
+    here ∙ ap (λ x. place_by x number count) seeded ∙ ap (λ n. place_by seed n count) number_is
+    ∙ ap (place_by seed (number_after seed (length schedule + 1))) (counted ∙ ap length ready) in
     sym (ap (slice_get (open_sections (run s schedule))) same) ∙ sym (ap (λ xs. slice_get xs place) ready)
     ∙ slice_get-get_or vs place v (omega (arith, inside, counted)) ∙ ap Some (sym read)
 
 -- the open sections of a run, as they are listed
 pub ready-of : (s t : Script) (schedule : List ℕ) (count : ℕ) (vs : List ℕ) → t ≡ s → count ≡ length s.sections
-  → vs ≡ filter (is_open (run t schedule)) (range_with_len 0 count) → vs ≡ open_sections (run s schedule)
+    → vs ≡ filter (is_open (run t schedule)) (range_with_len 0 count) → vs ≡ open_sections (run s schedule)
 ready-of s t schedule count vs same counted listed =
     listed ∙ ap (λ u. filter (is_open (run u schedule)) (range_with_len 0 count)) same
     ∙ ap (λ n. filter (is_open (run s schedule)) (range_with_len 0 n)) (counted ∙ sym (run-sections s schedule))
@@ -135,7 +135,7 @@ none-left (v ∷ vs) none = absurd (omega (arith, none))
 
 -- the section that was looked at is listed where it is open
 pub listed-more : (p : ℕ → Bool) (n : ℕ) (xs ys : List ℕ) → xs ≡ filter p (range_with_len 0 n) → p n ≡ true → ys ≡ xs ++ n ∷ []
-  → ys ≡ filter p (range_with_len 0 (n + 1))
+    → ys ≡ filter p (range_with_len 0 (n + 1))
 listed-more p n xs ys listed passes more =
     let e : suc n ≡ n + 1 = omega arith in
     let at : 0 + n ≡ n = omega arith in
@@ -145,7 +145,7 @@ listed-more p n xs ys listed passes more =
     ∙ sym (filter-more p 0 n) ∙ ap (λ m. filter p (range_with_len 0 m)) e
 
 pub listed-same : (p : ℕ → Bool) (n : ℕ) (xs ys : List ℕ) → xs ≡ filter p (range_with_len 0 n) → p n ≡ false → ys ≡ xs
-  → ys ≡ filter p (range_with_len 0 (n + 1))
+    → ys ≡ filter p (range_with_len 0 (n + 1))
 listed-same p n xs ys listed fails same =
     let e : suc n ≡ n + 1 = omega arith in
     let at : 0 + n ≡ n = omega arith in

@@ -8,3 +8,6 @@ mod picks;
 mod run;
 
 pub use run::run_scripts;
+
+#[cfg(test)]
+mod tests;

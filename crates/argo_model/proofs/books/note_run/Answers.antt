@@ -1,6 +1,4 @@
-use Rattle.std.proofs.Common.{◌≡◌, ℕ, ◌+◌, ◌-◌, ◌∷◌, [], ◌++◌, length, get_or, set, sym, ap, ◌∙◌, arith}
-use Rattle.argo_model.specs.declared.closing.Run.{Run}
-use Rattle.argo_model.specs.Final.{one_run, grown}
+use Rattle.std.proofs.Common.{◌≡◌, ◌-◌, length, get_or, ap, ◌∙◌, arith}
 use Rattle.argo_model.proofs.BookLaws.{grown-same, grown-other, count-le-schedule}
 use Rattle.argo_model.proofs.books.note_run.Goals as goal
 

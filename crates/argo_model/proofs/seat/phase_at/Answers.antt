@@ -1,4 +1,4 @@
-use Rattle.std.proofs.Common.{◌≡◌, ap, ◌∙◌, sym, slice_get, Some}
+use Rattle.std.proofs.Common.{ap, ◌∙◌, sym, slice_get}
 use Rattle.argo_model.specs.Built.{is_built_line}
 use Rattle.argo_model.proofs.LineLaws.{list_all-at, vcpu_line_from_built}
 use Rattle.argo_model.proofs.SeatLaws.{begins_by}

@@ -1,4 +1,4 @@
-use Rattle.std.proofs.Common.{rules, arith, sym, ◌∙◌, ap}
+use Rattle.std.proofs.Common.{arith, ◌∙◌}
 use Rattle.argo_run.proofs.WordLaws.{no_seed}
 use Rattle.argo_run.proofs.words.number_of.Goals as goal
 
@@ -9,4 +9,4 @@ returns-in_err-checked_mul c =
 pub returns-in_err-n : goal.returns-in_err-n
 returns-in_err-n c =
     c.from_residual-in_err-n.ensures ∙ no_seed c.args.word.now c.loop-digit.digit-index 0 c.loop-digit-test.true
-      (omega (arith, c.in_err-n.ensures, c.in_ok-checked_mul.ensures.1, c.from.ensures, c.loop-digit.invariant.0))
+    (omega (arith, c.in_err-n.ensures, c.in_ok-checked_mul.ensures.1, c.from.ensures, c.loop-digit.invariant.0))

@@ -1,4 +1,4 @@
-use Rattle.std.proofs.Common.{◌≡◌, ◌+◌, ◌<◌, ap, ◌∙◌, sym, arith, refl, length, vec_capacity}
+use Rattle.std.proofs.Common.{ap, ◌∙◌, arith, refl, length, vec_capacity}
 use Rattle.argo_model.specs.Run.{run, is_open}
 use Rattle.serial_run.proofs.PickLaws.{filter-few, listed-more, listed-same, open-where}
 use Rattle.serial_run.proofs.run.list_open.Goals.{then-not-finished, else-not-finished}
@@ -16,10 +16,12 @@ loop-v-preserved c =
     let ys = c.if-not-finished.vcpus.items in
     let stood = c.loop-v.invariant in
     elim c.if-not-finished.branch [
-      then-not-finished w ↦
-        (listed-more p c.loop-v.v xs ys stood.0 (open-where (p c.loop-v.v) w.if-not-finished.ensures.1) (ap (λ v. v.items) w.vcpus-is ∙ w.push_reserved.ensures.items)
-        , ap vec_capacity w.vcpus-is ∙ w.push_reserved.ensures.capacity ∙ stood.1)
-    | else-not-finished w ↦
-        (listed-same p c.loop-v.v xs ys stood.0 (w.if-not-finished.ensures.0 refl) (ap (λ v. v.items) w.vcpus-is)
-        , ap vec_capacity w.vcpus-is ∙ stood.1)
+      | then-not-finished w ↦ (
+        listed-more p c.loop-v.v xs ys stood.0 (open-where (p c.loop-v.v) w.if-not-finished.ensures.1) (ap (λ v. v.items) w.vcpus-is ∙ w.push_reserved.ensures.items),
+        ap vec_capacity w.vcpus-is ∙ w.push_reserved.ensures.capacity ∙ stood.1,
+      )
+      | else-not-finished w ↦ (
+        listed-same p c.loop-v.v xs ys stood.0 (w.if-not-finished.ensures.0 refl) (ap (λ v. v.items) w.vcpus-is),
+        ap vec_capacity w.vcpus-is ∙ stood.1,
+      )
     ]

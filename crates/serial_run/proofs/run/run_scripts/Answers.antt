@@ -1,4 +1,4 @@
-use Rattle.std.proofs.Common.{◌≡◌, ap, ◌∙◌, sym, subst, arith, rules, ℕ, List, length, IsTrue}
+use Rattle.std.proofs.Common.{◌≡◌, ◌∙◌, sym, subst, arith, ℕ, List, length, IsTrue}
 use Rattle.std.specs.List.{list_all}
 use Rattle.argo_model.specs.Script.{Script}
 use Rattle.argo_model.specs.Run.{run, is_open, is_finished}
@@ -15,9 +15,9 @@ step-requires c =
     let v = c.index-v.result.now in
     let P : Script → Type 0 = λ t. IsTrue (is_open (run t before) v) in
     subst P (sym stood.same) (picked-open s seed before v
-      (pick-made s seed c.steps.picks.seed c.steps.picks.number c.next_place.new.self.number c.next_place.result c.len.result v before c.steps.vcpus.items
-        stood.turned c.next_place.ensures.number stood.seeded stood.ready (c.len.ensures ∙ c.steps.vcpus.ok.0) c.next_place.ensures.place c.next_place.ensures.inside
-        c.index-v.ensures))
+    (pick-made s seed c.steps.picks.seed c.steps.picks.number c.next_place.new.self.number c.next_place.result c.len.result v before c.steps.vcpus.items
+    stood.turned c.next_place.ensures.number stood.seeded stood.ready (c.len.ensures ∙ c.steps.vcpus.ok.0) c.next_place.ensures.place c.next_place.ensures.inside
+    c.index-v.ensures))
 
 pub steps-preserved : goal.steps-preserved
 steps-preserved c =
@@ -31,15 +31,15 @@ steps-preserved c =
     record {
       same = ok.script ∙ stood.same;
       each =
-        let P : List ℕ → Type 0 = λ vs. EachIsPick s seed vs in
-        subst P (sym ok.schedule) (one-more s seed before v stood.each
+          let P : List ℕ → Type 0 = λ vs. EachIsPick s seed vs in
+          subst P (sym ok.schedule) (one-more s seed before v stood.each
           (pick-made s seed c.steps.picks.seed c.steps.picks.number number c.next_place.result c.len.result v before c.steps.vcpus.items
-            stood.turned c.next_place.ensures.number stood.seeded stood.ready (c.len.ensures ∙ c.steps.vcpus.ok.0) c.next_place.ensures.place c.next_place.ensures.inside
-            c.index-v.ensures));
+          stood.turned c.next_place.ensures.number stood.seeded stood.ready (c.len.ensures ∙ c.steps.vcpus.ok.0) c.next_place.ensures.place c.next_place.ensures.inside
+          c.index-v.ensures));
       turned = number-turned seed c.steps.picks.number number v before c.step.new.self.schedule stood.turned c.next_place.ensures.number ok.schedule;
       seeded = c.next_place.ensures.seed ∙ stood.seeded;
       ready = ready-of s c.step.new.self.script c.step.new.self.schedule c.len-count.result c.list_open-in-steps.new.vcpus.items (ok.script ∙ stood.same) stood.counted
-        c.list_open-in-steps.ensures.open;
+          c.list_open-in-steps.ensures.open;
       counted = stood.counted;
       room = omega (arith, stood.room, c.list_open-in-steps.ensures.room);
     }

@@ -1,12 +1,7 @@
-use Rattle.std.proofs.Common.{◌≡◌, ◌<◌, ◌+◌, List, ◌++◌, length, set, get_or, sym, ap, ◌∙◌, subst, arith, rules, refl, Some, slice_get, sum_by}
+use Rattle.std.proofs.Common.{◌≡◌, ◌+◌, ◌++◌, set, ap, ◌∙◌, rules, refl, Some, slice_get}
 use Rattle.std.specs.Vec.{with_item}
-use Rattle.argo_model.specs.declared.seat.Seat.{Seat}
-use Rattle.argo_model.specs.declared.closing.Run.{Run}
-use Rattle.argo_model.specs.declared.closing.DoneLine.{DoneLine}
-use Rattle.argo_model.specs.State.{State}
-use Rattle.argo_model.specs.Run.{Course, step}
+use Rattle.argo_model.specs.Run.{step}
 use Rattle.argo_model.specs.Final.{schedule_of, grown, totals_after, done_lines}
-use Rattle.argo_model.specs.Machine.{KeepsCourse}
 use Rattle.argo_model.specs.Kept.{StaysKept}
 use Rattle.argo_model.proofs.MachineLaws.{slice_get-read, inside_of, sections-set, left-same, left-less, kept_same, advanced, keeps_along}
 use Rattle.argo_model.proofs.BookLaws.{schedule_of-grown}
@@ -26,9 +21,9 @@ returns-in_err-outcome-clause-err c =
       schedule = ap schedule_of runs;
       left = left-same ss c.args.v s new here stays.left;
       course = λ course keeps.
-        keeps_along (set ss c.args.v new) k.world c.turn.new.world k.runs.items c.reserve.new.self.items k.done.items c.reserve-2.new.self.items k.totals.items k.totals.items course
-        c.in_err-outcome.ensures.world_err runs c.reserve-2.ensures.items refl
-        (kept_same ss k.world k.runs.items k.done.items k.totals.items c.args.v s new here stays course keeps);
+          keeps_along (set ss c.args.v new) k.world c.turn.new.world k.runs.items c.reserve.new.self.items k.done.items c.reserve-2.new.self.items k.totals.items k.totals.items course
+          c.in_err-outcome.ensures.world_err runs c.reserve-2.ensures.items refl
+          (kept_same ss k.world k.runs.items k.done.items k.totals.items c.args.v s new here stays course keeps);
     } in
     search (h, rules)
 
@@ -47,11 +42,13 @@ returns-clause-ok c =
       schedule = ap schedule_of runs ∙ schedule_of-grown k.runs.items c.args.v;
       nearer = left-less ss c.args.v s new here taken.nearer;
       course = λ course keeps.
-        let t = c.index_mut.result.now in
-        let a = advanced ss k.world c.turn.new.world k.runs.items k.done.items k.totals.items c.args.v s new c.in_ok-outcome.outcome c.in_ok-outcome.reply t
-          c.requires.small here taken c.index_mut.ensures.value c.note_totals.ensures.small course keeps in
-        (keeps_along (set ss c.args.v new) c.turn.new.world c.turn.new.world (grown k.runs.items c.args.v) c.note_run.new.runs.items
-          (k.done.items ++ done_lines c.args.v (s.done + 1) c.in_ok-outcome.reply) c.note_done.new.done.items
-          (set k.totals.items c.args.v (totals_after t c.in_ok-outcome.outcome)) (set k.totals.items c.args.v c.note_totals.new.totals) (step course c.args.v)
-          refl runs done (ap (set k.totals.items c.args.v) c.note_totals.ensures.totals) a.0, a.1);
+          let t = c.index_mut.result.now in
+          let a = advanced ss k.world c.turn.new.world k.runs.items k.done.items k.totals.items c.args.v s new c.in_ok-outcome.outcome c.in_ok-outcome.reply t
+          c.requires.small here taken c.index_mut.ensures.value c.note_totals.ensures.small course keeps in (
+            keeps_along (set ss c.args.v new) c.turn.new.world c.turn.new.world (grown k.runs.items c.args.v) c.note_run.new.runs.items
+                (k.done.items ++ done_lines c.args.v (s.done + 1) c.in_ok-outcome.reply) c.note_done.new.done.items
+                (set k.totals.items c.args.v (totals_after t c.in_ok-outcome.outcome)) (set k.totals.items c.args.v c.note_totals.new.totals) (step course c.args.v)
+                refl runs done (ap (set k.totals.items c.args.v) c.note_totals.ensures.totals) a.0,
+            a.1,
+          );
     }

@@ -1,5 +1,4 @@
-use Rattle.std.proofs.Common.{◌≡◌, ◌<◌, ◌↔◌, IsTrue, length, get_or, true, false, sym, ap, ◌∙◌, subst, refl}
-use Rattle.argo_model.specs.Run.{run, is_open}
+use Rattle.std.proofs.Common.{refl}
 use Rattle.argo_model.proofs.MachineLaws.{seat_from_read, finished_iff, none_open}
 use Rattle.argo_model.proofs.machine.Machine.finished.Goals as goal
 

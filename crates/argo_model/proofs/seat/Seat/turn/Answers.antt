@@ -1,4 +1,4 @@
-use Rattle.std.proofs.Common.{◌≡◌, ap, ◌∙◌, sym, refl, drop, ◌+◌, ◌∷◌, arith, rules}
+use Rattle.std.proofs.Common.{ap, ◌∙◌, sym, refl, drop, ◌+◌, ◌∷◌, arith, rules}
 use Rattle.argo_model.specs.Act.{act}
 use Rattle.argo_model.proofs.SeatLaws.{stays_seated, line_here, phase_here, line_goes_on, line_is_done}
 use Rattle.argo_model.proofs.seat.Seat.turn.Goals as goal

@@ -1,7 +1,6 @@
-use Rattle.std.proofs.Common.{◌≡◌, sym, ap, ◌∙◌, Some, rules, refl}
+use Rattle.std.proofs.Common.{sym, ap, ◌∙◌, refl}
 use Rattle.std.proofs.lemmas.Result.{IfOk-weaker}
 use Rattle.argo_model.specs.Act.{told}
-use Rattle.argo_model.specs.World.{ActsAlone}
 use Rattle.argo_model.proofs.WorldLaws.{acts_alone_gone, acts_still, acts_put, life_in-other, life_in-own}
 use Rattle.argo_model.proofs.state.Domain.act.Goals as goal
 

@@ -1,11 +1,8 @@
-use Rattle.std.proofs.Common.{◌≡◌, sym, ap, ◌∙◌, Some, None, rules}
+use Rattle.std.proofs.Common.{◌≡◌, sym, ap, ◌∙◌, Some, None}
 use Rattle.std.specs.Option.{option_copied_mut}
-use Rattle.std.specs.BTreeMap.{is_at}
-use Rattle.std.specs.Ordering.{nat_cmp}
-use Rattle.std.specs.Map.{set_value}
 use Rattle.std.proofs.lemmas.Result.{on_err_weaker}
 use Rattle.argo_model.specs.State.{domain_of, set_domain}
-use Rattle.argo_model.specs.Act.{told, act_if_there}
+use Rattle.argo_model.specs.Act.{act_if_there}
 use Rattle.argo_model.proofs.WorldLaws.{set_domain-same}
 use Rattle.argo_model.proofs.world.World.act.Goals as goal
 
@@ -19,7 +16,7 @@ pub returns-clause-err : goal.returns-clause-err
 returns-clause-err c =
     let there : domain_of c.self.inside.domains.entries c.in-Vcpu.dom ≡ Some c.in-Some.domain.now = sym c.get_mut.ensures.value ∙ ap option_copied_mut c.in-Some.is in
     on_err_weaker c.act.result (λ same.
-        (c.get_mut.follows.holds c.act.new.self).0
-        ∙ ap (λ x. set_domain c.self.inside.domains.entries c.in-Vcpu.dom x) same
-        ∙ set_domain-same c.self.inside.domains.entries c.in-Vcpu.dom c.in-Some.domain.now there
-        ∙ c.self.view_is) c.act.ensures.err
+    (c.get_mut.follows.holds c.act.new.self).0
+    ∙ ap (λ x. set_domain c.self.inside.domains.entries c.in-Vcpu.dom x) same
+    ∙ set_domain-same c.self.inside.domains.entries c.in-Vcpu.dom c.in-Some.domain.now there
+    ∙ c.self.view_is) c.act.ensures.err

@@ -1,0 +1,5 @@
+use Rattle.argo_model.proofs.WorkedPuts.{guest_puts}
+use Rattle.argo_model.proofs.examples.guest_puts.Goals as goal
+
+pub returns : goal.returns
+returns c = guest_puts

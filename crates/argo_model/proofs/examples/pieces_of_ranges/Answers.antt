@@ -1,0 +1,5 @@
+use Rattle.argo_model.proofs.WorkedIovs.{pieces_of_ranges}
+use Rattle.argo_model.proofs.examples.pieces_of_ranges.Goals as goal
+
+pub returns : goal.returns
+returns c = pieces_of_ranges

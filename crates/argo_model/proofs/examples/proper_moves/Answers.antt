@@ -1,0 +1,5 @@
+use Rattle.argo_model.proofs.WorkedPuts.{proper_moves}
+use Rattle.argo_model.proofs.examples.proper_moves.Goals as goal
+
+pub returns : goal.returns
+returns c = proper_moves

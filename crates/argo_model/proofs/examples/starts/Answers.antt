@@ -1,0 +1,5 @@
+use Rattle.argo_model.proofs.WorkedPuts.{starts}
+use Rattle.argo_model.proofs.examples.starts.Goals as goal
+
+pub returns : goal.returns
+returns c = starts

@@ -1,0 +1,5 @@
+use Rattle.argo_model.proofs.WorkedPuts.{starts_in_memory}
+use Rattle.argo_model.proofs.examples.starts_in_memory.Goals as goal
+
+pub returns : goal.returns
+returns c = starts_in_memory

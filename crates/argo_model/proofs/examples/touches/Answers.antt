@@ -1,0 +1,5 @@
+use Rattle.argo_model.proofs.WorkedPuts.{touches}
+use Rattle.argo_model.proofs.examples.touches.Goals as goal
+
+pub returns : goal.returns
+returns c = touches

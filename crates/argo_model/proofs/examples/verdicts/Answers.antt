@@ -1,0 +1,5 @@
+use Rattle.argo_model.proofs.WorkedIovs.{verdicts}
+use Rattle.argo_model.proofs.examples.verdicts.Goals as goal
+
+pub returns : goal.returns
+returns c = verdicts

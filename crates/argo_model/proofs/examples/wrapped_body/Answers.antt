@@ -1,0 +1,5 @@
+use Rattle.argo_model.proofs.WorkedTalk.{wrapped_body}
+use Rattle.argo_model.proofs.examples.wrapped_body.Goals as goal
+
+pub returns : goal.returns
+returns c = wrapped_body

@@ -1,0 +1,133 @@
+use crate::{Status, run, run_serial};
+use argo_base::{Bytes, NoMemory};
+use argo_outside::{CallList, MemSink, MemSource};
+use script_text::ScriptKind;
+use std::alloc::{AllocError, Global};
+use std::test::Fail;
+
+const ACROSS_PAGES: &[u8] = b"argo 1
+domain 1 pages 2
+vcpu 1
+store 0xffc 0102030405060708
+load 0xffc 8
+store 0x1ffc 0102030405060708
+load 0x1ffc 4
+load 0x2000 1
+";
+
+const ACROSS_PAGES_REPORT: &[u8] = b"argo report 1
+schedule 0*8
+reply 0 1 ok
+reply 0 2 0102030405060708
+reply 0 3 fault
+reply 0 4 01020304
+reply 0 5 fault
+domain 1 alive clear
+vcpu 0 steps 8 accepted 0 bytes 0
+end
+";
+
+const USAGE: &[u8] = b"usage: argo_run threads | serial N | gen N\n";
+
+fn source(alloc: Global, text: &[u8], fails: &[u64]) -> Result<MemSource, NoMemory> {
+    let bytes = Bytes::copy_of(alloc, text)?;
+    Ok(MemSource::new(bytes, 50, CallList::copy_of(alloc, fails)?))
+}
+
+fn sink(alloc: Global, fails: &[u64]) -> Result<MemSink, NoMemory> {
+    MemSink::new(alloc, 1000, 50, CallList::copy_of(alloc, fails)?)
+}
+
+// The words of a text between its blanks.
+fn words_of(alloc: Global, text: &str) -> Result<Vec<String>, AllocError> {
+    let mut words = Vec::new(alloc);
+    for word in text.split_whitespace() {
+        words.push(String::from_str(alloc, word)?)?;
+    }
+    Ok(words)
+}
+
+#[test]
+fn a_script_is_served_by_its_report(rt: HostRuntime) -> Result<(), Fail> {
+    let mut src = source(rt.alloc(), ACROSS_PAGES, &[])?;
+    let mut out = sink(rt.alloc(), &[])?;
+    let status = run_serial(rt.alloc(), 0, &mut src, &mut out);
+    assert_eq!(rt; (status, status.number()), (Status::Done, 0));
+    assert_eq!(rt; out.as_slice(), ACROSS_PAGES_REPORT);
+    Ok(())
+}
+
+#[test]
+fn a_source_fails_and_nothing_is_written(rt: HostRuntime) -> Result<(), Fail> {
+    let mut src = source(rt.alloc(), ACROSS_PAGES, &[2])?;
+    let mut out = sink(rt.alloc(), &[])?;
+    let status = run_serial(rt.alloc(), 0, &mut src, &mut out);
+    assert_eq!(rt; (status, status.number()), (Status::SourceFault, 3));
+    assert_eq!(rt; (src.calls, src.faults, out.calls), (2, 1, 0));
+    Ok(())
+}
+
+#[test]
+fn a_sink_fails_and_the_report_is_cut_short(rt: HostRuntime) -> Result<(), Fail> {
+    let mut src = source(rt.alloc(), ACROSS_PAGES, &[])?;
+    let mut out = sink(rt.alloc(), &[3])?;
+    let status = run_serial(rt.alloc(), 0, &mut src, &mut out);
+    assert_eq!(rt; (status, status.number()), (Status::SinkFault, 4));
+    assert_eq!(rt; out.as_slice(), b"argo report 1\nschedule 0*8\n".as_slice());
+    assert_eq!(rt; (out.calls, out.faults), (3, 1));
+    Ok(())
+}
+
+#[test]
+fn no_script_is_told_by_its_line(rt: HostRuntime) -> Result<(), Fail> {
+    let mut src = source(rt.alloc(), b"argo 1\n\tdomain 1 pages 1\n", &[])?;
+    let mut out = sink(rt.alloc(), &[])?;
+    let status = run_serial(rt.alloc(), 0, &mut src, &mut out);
+    let kind = ScriptKind::NotYet;
+    assert_eq!(rt;
+        (status, status.number()),
+        (Status::Script { line: 0, kind }, 5)
+    );
+    assert_eq!(rt; out.as_slice(), b"script line 0: not yet\n".as_slice());
+    Ok(())
+}
+
+#[test]
+fn wrong_words_are_answered_by_the_usage(rt: HostRuntime) -> Result<(), Fail> {
+    for text in [
+        "",
+        "serial",
+        "threads",
+        "serial +1",
+        "serial 18446744073709551616",
+        "serial 000000000000000000001",
+        "serial 1 2",
+    ] {
+        let words = words_of(rt.alloc(), text)?;
+        let mut src = source(rt.alloc(), ACROSS_PAGES, &[])?;
+        let mut out = sink(rt.alloc(), &[])?;
+        let status = run(rt.alloc(), &words, &mut src, &mut out);
+        assert_eq!(rt; (status, status.number()), (Status::Usage, 2), "at {text}");
+        assert_eq!(rt; out.as_slice(), USAGE, "at {text}");
+        assert_eq!(rt; src.calls, 0, "at {text}");
+    }
+    Ok(())
+}
+
+#[test]
+fn the_words_of_a_seed_are_served(rt: HostRuntime) -> Result<(), Fail> {
+    for text in ["serial 0", "serial 007", "serial 18446744073709551615"] {
+        let words = words_of(rt.alloc(), text)?;
+        let mut src = source(rt.alloc(), ACROSS_PAGES, &[])?;
+        let mut out = sink(rt.alloc(), &[])?;
+        let status = run(rt.alloc(), &words, &mut src, &mut out);
+        assert_eq!(rt; status, Status::Done, "at {text}");
+        assert_eq!(rt; out.as_slice(), ACROSS_PAGES_REPORT, "at {text}");
+    }
+    Ok(())
+}
+
+#[test]
+fn want_of_memory_has_its_number(rt: HostRuntime) {
+    assert_eq!(rt; Status::NoMemory.number(), 7);
+}
