@@ -4,11 +4,11 @@ use Rattle.std.proofs.lemmas.Bool.Decides.{nat_tests}
 use Rattle.std.proofs.lemmas.Bool.{false≢true}
 use Rattle.std.specs.List.{list_all}
 use Rattle.argo_model.specs.declared.line.Line.{Line}
-use Rattle.argo_model.specs.declared.line.Line.TheVariants.{Store, Load, Op, Await, Recv, Destroy, Reset, Create}
+use Rattle.argo_model.specs.declared.line.Line.TheVariants.{Store, Load}
 use Rattle.argo_model.specs.declared.scripts.Actor.{Actor}
 use Rattle.argo_model.specs.declared.scripts.Actor.TheVariants.{Vcpu, Control}
-use Rattle.argo_model.specs.Script.{is_vcpu_line, is_control_line, is_lawful_for, is_generation, is_lawful, turns_of, Script}
-use Rattle.argo_model.specs.Built.{is_built_line}
+use Rattle.argo_model.specs.Script.{is_short, is_vcpu_line, is_control_line, is_lawful_for, is_generation, is_lawful, turns_of, Script}
+use Rattle.argo_model.specs.Phase.{is_line_for}
 
 both : (x y : Bool) → IsTrue (x && y) → IsTrue x × IsTrue y
 both true true h = (refl, refl)
@@ -22,22 +22,20 @@ list_all-at p (y ∷ ys) zero x here all =
     let same : y ≡ x = cc in subst (λ z. IsTrue (p z)) same (both (p y) (list_all p ys) all).0
 list_all-at p (y ∷ ys) (suc i) x here all = list_all-at p ys i x here (both (p y) (list_all p ys) all).1
 
-not_control : (line : Line) → IsTrue (is_built_line line) → IsTrue (is_control_line line) → IsTrue (is_vcpu_line line)
-not_control (Store at bytes) built control = absurd (false≢true control)
-not_control (Load at n) built control = absurd (false≢true control)
-not_control (Op c a1 a2 a3 a4) built control = absurd (false≢true control)
-not_control (Await turns) built control = absurd (false≢true control)
-not_control (Recv page len) built control = absurd (false≢true control)
-not_control (Destroy d) built control = absurd (false≢true built)
-not_control (Reset d) built control = absurd (false≢true built)
-not_control (Create d) built control = absurd (false≢true built)
+-- and so a line of a lawful section is one that its actor may have
+pub lawful_line : (actor : Actor) (lines : List Line) (i : ℕ) (line : Line) → slice_get lines i ≡ Some line
+    → IsTrue (is_lawful_for actor lines) → IsTrue (is_line_for actor line)
+lawful_line (Vcpu d g) lines i line here lawful = list_all-at is_vcpu_line lines i line here (both (is_generation g) (list_all is_vcpu_line lines) lawful).1
+lawful_line Control lines i line here lawful = list_all-at is_control_line lines i line here lawful
 
--- a line of a lawful section that the machine performs is one of a virtual CPU
-pub vcpu_line_from_built : (actor : Actor) (lines : List Line) (i : ℕ) (line : Line) → slice_get lines i ≡ Some line
-    → IsTrue (is_lawful_for actor lines) → IsTrue (is_built_line line) → IsTrue (is_vcpu_line line)
-vcpu_line_from_built (Vcpu d g) lines i line here lawful built =
-    list_all-at is_vcpu_line lines i line here (both (is_generation g) (list_all is_vcpu_line lines) lawful).1
-vcpu_line_from_built Control lines i line here lawful built = not_control line built (list_all-at is_control_line lines i line here lawful)
+-- a store or a load is short
+pub short_store : (actor : Actor) (at : ℕ) (bytes : List ℕ) → IsTrue (is_line_for actor (Store at bytes)) → IsTrue (is_short (length bytes))
+short_store (Vcpu d g) at bytes lawful = lawful
+short_store Control at bytes lawful = absurd (false≢true lawful)
+
+pub short_load : (actor : Actor) (at n : ℕ) → IsTrue (is_line_for actor (Load at n)) → IsTrue (is_short n)
+short_load (Vcpu d g) at n lawful = lawful
+short_load Control at n lawful = absurd (false≢true lawful)
 
 le_from : (m n : ℕ) → IsTrue (nat_le m n) → m ≤ n
 le_from m n h = grind (arith, nat_tests)

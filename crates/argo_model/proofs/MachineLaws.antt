@@ -18,13 +18,16 @@ use Rattle.argo_model.specs.declared.scripts.DomainLine.{DomainLine}
 use Rattle.argo_model.specs.declared.line.Line.{Line}
 use Rattle.argo_model.specs.Script.{Section}
 use Rattle.argo_model.specs.State.{State, start_state}
+use Rattle.argo_model.specs.Sound.{IsSoundWorld, IsYoungWorld}
 use Rattle.argo_model.specs.Run.{Progress, Step, Course, Turn, turn, next_turn, after_turn, step, start, at_first_line, has_lines, is_unfinished}
 use Rattle.argo_model.specs.Final.{grown, runs_of, schedule_of, done_at, done_of, totals_of, accepted_size, is_accepted, size_or_none, totals_after, done_lines}
 use Rattle.argo_model.specs.Seat.{IsSeat, Stands, TakesTurn, StaysSeated, seat_left, lines_left}
 use Rattle.argo_model.specs.Machine.{AllStand, sections_of, IsSmall, AreSmall, KeepsCourse, script_of}
 use Rattle.argo_model.specs.Seats.{most_of, AreSeatsOf}
 use Rattle.argo_model.specs.Kept.{IsOpenAt}
+use Rattle.argo_model.specs.Replies.{reply_steps}
 use Rattle.argo_model.proofs.BookLaws.{schedule_of-grown, runs_of-push, set-map-range}
+use Rattle.argo_model.proofs.ReplyLaws.{keeps_step}
 
 -- the section of a seat stands at the seat's place
 pub stands_at : (ss : List Seat) (ps : List Progress) (v : ℕ) (s : Seat) → AllStand ss ps → slice_get ss v ≡ Some s
@@ -211,21 +214,25 @@ zero_add : (n : ℕ) → 0 + n ≡ n
 zero_add n = omega arith
 
 -- a machine that keeps the course keeps it after a step
-pub advanced : (ss : List Seat) (before after : State) (runs : List Run) (done : List DoneLine) (totals : List Totals) (v : ℕ) (s new : Seat) (o : Outcome) (reply : Option Reply) (t : Totals)
+pub advanced : (ss : List Seat) (before after : State) (runs : List Run) (done : List DoneLine) (ns : List ℕ) (totals : List Totals) (v : ℕ) (s new : Seat) (o : Outcome) (reply : Option Reply) (t : Totals)
     → AreSmall ss runs totals → slice_get ss v ≡ Some s → TakesTurn s before o reply new after → t ≡ get_or totals v t → size_or_none (accepted_size o) < 2 ^ 32
-    → (c : Course) → KeepsCourse ss before runs done totals c
-    → KeepsCourse (set ss v new) after (grown runs v) (done ++ done_lines v (s.done + 1) reply) (set totals v (totals_after t o)) (step c v)
+    → (c : Course) → KeepsCourse ss before runs done ns totals c
+    → KeepsCourse (set ss v new) after (grown runs v) (done ++ done_lines v (s.done + 1) reply) (ns ++ reply_steps (t.steps + 1) reply) (set totals v (totals_after t o)) (step c v)
     × (option_map (λ x. x.outcome) (next_turn c v) ≡ Some o)
-advanced ss before after runs done totals v s new o reply t small here taken read size c keeps =
+advanced ss before after runs done ns totals v s new o reply t small here taken read size c keeps =
     let r = run_turn ss before after c v s new o reply keeps.state_is keeps.seats_stand here taken in
     let x : Step = record { vcpu = v; line = r.turned.line; action = r.turned.action; outcome = r.turned.outcome; reply = r.turned.reply } in
     let inside = inside_of ss v s here in
     let here_t : t ≡ totals_of c.steps v =
     read ∙ ap (λ ts. get_or ts v t) keeps.totals_are ∙ get_or-map-range (totals_of c.steps) 0 (length ss) v t inside ∙ ap (totals_of c.steps) (zero_add v) in
     let stepped : step c v ≡ after_turn c v (Some r.turned) = ap (λ y. after_turn c v y) r.is in
-    let P : Course → Type 0 = λ y. KeepsCourse (set ss v new) after (grown runs v) (done ++ done_lines v (s.done + 1) reply) (set totals v (totals_after t o)) y in (
+    let P : Course → Type 0 = λ y. KeepsCourse (set ss v new) after (grown runs v) (done ++ done_lines v (s.done + 1) reply) (ns ++ reply_steps (t.steps + 1) reply) (set totals v (totals_after t o)) y in (
       subst P (sym stepped) (record {
         state_is = sym r.state_is;
+        sound = taken.sound;
+        young =
+            let n : length (schedule_of (grown runs v)) ≡ length (schedule_of runs) + 1 = ap length (schedule_of-grown runs v) ∙ length-append (schedule_of runs) (v ∷ []) in
+            subst (λ n. IsYoungWorld (n + 1) after) (sym n) (taken.young (length (schedule_of runs) + 1) keeps.young);
         seats_stand = all_stand-set ss c.sections v new r.turned.progress keeps.seats_stand taken.seat r.stands;
         each_step =
             length-append c.steps (x ∷ []) ∙ ap (λ n. n + 1) keeps.each_step
@@ -235,6 +242,7 @@ advanced ss before after runs done totals v s new o reply t small here taken rea
             ap (λ ds. ds ++ done_lines v (s.done + 1) reply) keeps.done_is
             ∙ ap (λ ls. done_of c.steps ++ ls) (sym (done_of-one v r.turned.line r.turned.action r.turned.outcome r.turned.reply ∙ ap (λ l. done_lines v l r.turned.reply) r.line_is ∙ ap (λ y. done_lines v (s.done + 1) y) r.reply_is))
             ∙ sym (done-push c.steps x);
+        replies_are = keeps_step done ns c.steps x v (s.done + 1) (t.steps + 1) reply keeps.replies_are refl r.reply_is (ap (λ y. y.steps + 1) here_t);
         totals_are =
             ap (λ ts. set ts v (totals_after t o)) keeps.totals_are
             ∙ ap (λ y. set (map (totals_of c.steps) (range_with_len 0 (length ss))) v y) (ap (λ y. totals_after y o) here_t ∙ ap (λ y. totals_after (totals_of c.steps v) y) (sym r.outcome_is))
@@ -272,28 +280,32 @@ small-same ss runs totals v s new small here same =
       as_many = small.as_many ∙ sym (length-set ss v new);
     }
 
-pub kept_same : (ss : List Seat) (state : State) (runs : List Run) (done : List DoneLine) (totals : List Totals) (v : ℕ) (s new : Seat)
-    → slice_get ss v ≡ Some s → StaysSeated s new → (c : Course) → KeepsCourse ss state runs done totals c → KeepsCourse (set ss v new) state runs done totals c
-kept_same ss state runs done totals v s new here stays c keeps =
+pub kept_same : (ss : List Seat) (state : State) (runs : List Run) (done : List DoneLine) (ns : List ℕ) (totals : List Totals) (v : ℕ) (s new : Seat)
+    → slice_get ss v ≡ Some s → StaysSeated s new → (c : Course) → KeepsCourse ss state runs done ns totals c → KeepsCourse (set ss v new) state runs done ns totals c
+kept_same ss state runs done ns totals v s new here stays c keeps =
     record {
       state_is = keeps.state_is;
+      sound = keeps.sound;
+      young = keeps.young;
       seats_stand = all_stand-same ss c.sections v s new keeps.seats_stand here stays;
       each_step = keeps.each_step;
       runs_are = keeps.runs_are;
       done_is = keeps.done_is;
+      replies_are = keeps.replies_are;
       totals_are = keeps.totals_are ∙ ap (λ n. map (totals_of c.steps) (range_with_len 0 n)) (sym (length-set ss v new));
       small = small-same ss runs totals v s new keeps.small here stays.left;
     }
 
 -- equal books keep the course alike
-pub keeps_along : (ss : List Seat) (w w2 : State) (rs rs2 : List Run) (ds ds2 : List DoneLine) (ts ts2 : List Totals) (c : Course)
-    → w2 ≡ w → rs2 ≡ rs → ds2 ≡ ds → ts2 ≡ ts → KeepsCourse ss w rs ds ts c → KeepsCourse ss w2 rs2 ds2 ts2 c
-keeps_along ss w w2 rs rs2 ds ds2 ts ts2 c ew er ed et keeps =
-    let P : State → Type 0 = λ x. KeepsCourse ss x rs ds ts c in
-    let Q : List Run → Type 0 = λ x. KeepsCourse ss w2 x ds ts c in
-    let R : List DoneLine → Type 0 = λ x. KeepsCourse ss w2 rs2 x ts c in
-    let S : List Totals → Type 0 = λ x. KeepsCourse ss w2 rs2 ds2 x c in
-    subst S (sym et) (subst R (sym ed) (subst Q (sym er) (subst P (sym ew) keeps)))
+pub keeps_along : (ss : List Seat) (w w2 : State) (rs rs2 : List Run) (ds ds2 : List DoneLine) (ns ns2 : List ℕ) (ts ts2 : List Totals) (c : Course)
+    → w2 ≡ w → rs2 ≡ rs → ds2 ≡ ds → ns2 ≡ ns → ts2 ≡ ts → KeepsCourse ss w rs ds ns ts c → KeepsCourse ss w2 rs2 ds2 ns2 ts2 c
+keeps_along ss w w2 rs rs2 ds ds2 ns ns2 ts ts2 c ew er ed en et keeps =
+    let P : State → Type 0 = λ x. KeepsCourse ss x rs ds ns ts c in
+    let Q : List Run → Type 0 = λ x. KeepsCourse ss w2 x ds ns ts c in
+    let R : List DoneLine → Type 0 = λ x. KeepsCourse ss w2 rs2 x ns ts c in
+    let N : List ℕ → Type 0 = λ x. KeepsCourse ss w2 rs2 ds2 x ts c in
+    let S : List Totals → Type 0 = λ x. KeepsCourse ss w2 rs2 ds2 ns2 x c in
+    subst S (sym et) (subst N (sym en) (subst R (sym ed) (subst Q (sym er) (subst P (sym ew) keeps))))
 
 -- a section has a line left exactly where not all of its lines are done
 some_left : (ls : List Line) → 0 < length ls → has_lines ls ≡ true
@@ -348,17 +360,20 @@ same_of_all (suc n) (suc k) x y here = same_of_all n k x y here
 
 -- before the first step
 pub starts_so : (version : ℕ) (domains : List DomainLine) (ss : List Seat) (xs : List Section) (state : State) (totals : List Totals)
-    → AreSeatsOf ss xs → state ≡ start_state domains → totals ≡ replicate (length ss) (record { steps = 0; accepted = 0; bytes = 0 })
+    → AreSeatsOf ss xs → state ≡ start_state domains → IsSoundWorld state → IsYoungWorld 1 state → totals ≡ replicate (length ss) (record { steps = 0; accepted = 0; bytes = 0 })
     → length xs ≤ 64 → sum_by most_of xs ≤ 2 ^ 28
-    → KeepsCourse ss state [] [] totals (start (script_of version domains ss))
-starts_so version domains ss xs state totals are state_is totals_are few bound =
+    → KeepsCourse ss state [] [] [] totals (start (script_of version domains ss))
+starts_so version domains ss xs state totals are state_is sound young totals_are few bound =
     let n : length ss ≡ length xs = sym (length-map ss (λ s. s.part)) ∙ ap length are.sections_are in
     record {
       state_is = state_is;
+      sound = sound;
+      young = young;
       seats_stand = let P : List Section → Type 0 = λ ys. AllStand ss (map at_first_line ys) in subst P (sym are.sections_are) are.stand;
       each_step = refl;
       runs_are = refl;
       done_is = refl;
+      replies_are = record { as_many = refl; heard_is = λ v. refl };
       totals_are = totals_are ∙ zero_totals 0 (length ss);
       small = record {
         totals_small = λ k t here.

@@ -2,22 +2,20 @@
 use Rattle.std.proofs.Common.{◌≡◌, ℕ, zero, suc, ◌+◌, ◌<◌, ◌≤◌, List, [], ◌∷◌, ◌++◌, length, drop, sum_by, Some, None, slice_get, refl, sym, ap, ◌∙◌, subst, append_assoc, arith, add-one}
 use Rattle.std.proofs.lemmas.List.{append-nil, drop-drop}
 use Rattle.std.proofs.lemmas.List.Sums.{sum_by-cons}
-use Rattle.argo_base.proofs.PieceLaws.{pieces-first}
+use Rattle.argo_model.proofs.RangeLaws.{collect-does, put_all-does, some_piece}
 use Rattle.argo_model.specs.declared.seat.Seat.{Seat}
 use Rattle.argo_model.specs.declared.phase.Phase.{Phase}
-use Rattle.argo_model.specs.declared.phase.Phase.TheVariants.{Putting, Fetching}
-use Rattle.argo_model.specs.declared.cursor.Cursor.{Cursor}
+use Rattle.argo_model.specs.declared.phase.Phase.TheVariants.{Reading, Writing, Asking, Ended}
 use Rattle.argo_model.specs.declared.line.Line.{Line}
-use Rattle.argo_model.specs.declared.line.Line.TheVariants.{Store, Load}
 use Rattle.argo_model.specs.declared.scripts.Actor.{Actor}
 use Rattle.argo_model.specs.declared.action.Action.{Action}
 use Rattle.argo_model.specs.declared.action.Outcome.{Outcome}
 use Rattle.argo_model.specs.declared.reply.Reply.{Reply}
-use Rattle.argo_model.specs.Cursor.{pieces_left, IsSound}
-use Rattle.argo_model.specs.Program.{Next, Do, Say, Rests, put_all, fetch_all, program}
+use Rattle.argo_model.specs.Program.{Next, Do, Say, program}
 use Rattle.argo_model.specs.Phase.{rest_of, IsAtPhase, GoesOnAlike, phase_left}
 use Rattle.argo_model.specs.Act.{act}
 use Rattle.argo_model.specs.State.{State}
+use Rattle.argo_model.specs.Sound.{IsSoundWorld, IsYoungWorld}
 use Rattle.argo_model.specs.Run.{Progress, turn, turn_at, turn_by, turn_to}
 use Rattle.argo_model.specs.Steps.{most_steps}
 use Rattle.argo_model.specs.Seat.{IsAtLine, lines_left, IsSeat, StandsFor, Stands, Begins, TakesTurn, StaysSeated}
@@ -28,26 +26,19 @@ drop-slice_get [] i x e = cc
 drop-slice_get (y ∷ ys) zero x e = let same : y ≡ x = cc in ap (λ z. z ∷ ys) same
 drop-slice_get (y ∷ ys) (suc i) x e = drop-slice_get ys i x e ∙ rw (add-one, add-one) refl
 
-put_all-does : (c : Cursor) (bytes : List ℕ) (failed : Next) (k : Rests) → 0 < c.left → IsSound c → (a : Action) × (put_all (pieces_left c) bytes failed k [] ≡ Do a)
-put_all-does c bytes failed k some sound = (_, ap (λ ps. put_all ps bytes failed k []) (pieces-first c.page c.off c.left sound.inside some))
-
-fetch_all-does : (c : Cursor) (got : List ℕ) (failed : Next) (k : List ℕ → Rests) → 0 < c.left → IsSound c → (a : Action) × (fetch_all (pieces_left c) got failed k [] ≡ Do a)
-fetch_all-does c got failed k some sound = (_, ap (λ ps. fetch_all ps got failed k []) (pieces-first c.page c.off c.left sound.inside some))
-
-some_piece : (c : Cursor) → 0 < c.left → IsSound c → 0 < length (pieces_left c)
-some_piece c some sound = rw (pieces-first c.page c.off c.left sound.inside some) (omega arith)
-
 -- a line at a phase has an action to come
 pub at_phase_does : (line : Line) (phase : Phase) → IsAtPhase line phase → (a : Action) × (rest_of line phase [] ≡ Do a)
-at_phase_does (Store at bytes) (Putting c) h = put_all-does c _ _ _ h.0 h.2
-at_phase_does (Load at n) (Fetching c got) h = fetch_all-does c _ _ _ h.0 h.2
-at_phase_does line phase h = absurd h
+at_phase_does line (Reading c got purpose) h = collect-does c _ _ _ h.some h.sound
+at_phase_does line (Writing c text) h = put_all-does c _ _ _ h.some h.sound
+at_phase_does line (Asking q) h = (_, refl)
+at_phase_does line Ended h = absurd h
 
 -- and so more than none
 pub at_phase_left : (line : Line) (phase : Phase) → IsAtPhase line phase → 0 < phase_left phase
-at_phase_left (Store at bytes) (Putting c) h = some_piece c h.0 h.2
-at_phase_left (Load at n) (Fetching c got) h = some_piece c h.0 h.2
-at_phase_left line phase h = absurd h
+at_phase_left line (Reading c got purpose) h = let some = some_piece c h.some h.sound in omega (arith, some)
+at_phase_left line (Writing c text) h = let some = some_piece c h.some h.sound in omega (arith, some)
+at_phase_left line (Asking q) h = omega arith
+at_phase_left line Ended h = absurd h
 
 -- what a turn of a section comes to where its next line does this action, with this outcome
 module _ (s : Seat) (before after : State) (line : Line) (rest : List Line) (a : Action) (o : Outcome)
@@ -86,20 +77,21 @@ pub line_goes_on : (s : Seat) (before after : State) (line : Line) (rest : List 
     → IsSeat s → lines_left s ≡ line ∷ rest → rest_of line s.phase [] ≡ Do a
     → act s.part.actor a before ≡ record { outcome = o; state = after }
     → ((os : List Outcome) → rest_of line s.phase (o ∷ os) ≡ rest_of line phase os)
-    → IsAtPhase line phase → phase_left phase < phase_left s.phase
+    → IsAtPhase line phase → phase_left phase < phase_left s.phase → IsSoundWorld after → ((n : ℕ) → IsYoungWorld n before → IsYoungWorld (n + 1) after)
     → TakesTurn s before o None (record s { phase = phase }) after
-line_goes_on s before after line rest a o phase seat lines does acts fed at_phase nearer =
+line_goes_on s before after line rest a o phase seat lines does acts fed at_phase nearer sound young =
     let next = at_phase_does line phase at_phase in
     record {
       still = refl;
       seat = record {
-        built = seat.built;
         few = seat.few;
         done = seat.done;
         at_line = let P : List Line → Type 0 = λ ls. IsAtLine ls phase in subst P (sym lines) at_phase;
       };
       nearer = omega arith;
       done = tt;
+      sound = sound;
+      young = young;
       turns = λ p st. (
         turn_to p rest a (record { outcome = o; state = after }) (Do next.0),
         turned s before after line rest a o lines does acts p st (Do next.0) (fed [] ∙ next.1),
@@ -135,16 +127,19 @@ pub line_is_done : (s : Seat) (before after : State) (line : Line) (rest : List 
     → act s.part.actor a before ≡ record { outcome = o; state = after }
     → ((os : List Outcome) → rest_of line s.phase (o ∷ os) ≡ Say reply)
     → Begins s.part.actor (drop (s.done + 1) s.part.lines) phase → IsAtPhase line s.phase
+    → IsSoundWorld after → ((n : ℕ) → IsYoungWorld n before → IsYoungWorld (n + 1) after)
     → TakesTurn s before o (Some reply) (record s { done = s.done + 1; phase = phase }) after
-line_is_done s before after line rest a o reply phase seat more lines later does acts fed begins at_phase =
+line_is_done s before after line rest a o reply phase seat more lines later does acts fed begins at_phase sound young =
     let here = at_phase_left line s.phase at_phase in
     let less = begins_left s.part.actor (drop (s.done + 1) s.part.lines) phase begins in
     let later_drop : drop (s.done + 1 + 1) s.part.lines ≡ drop 1 (drop (s.done + 1) s.part.lines) = sym (drop-drop 1 (s.done + 1) s.part.lines) in
     record {
       still = refl;
-      seat = record { built = seat.built; few = seat.few; done = omega arith; at_line = begins_at s.part.actor _ phase begins };
+      seat = record { few = seat.few; done = omega arith; at_line = begins_at s.part.actor _ phase begins };
       nearer = rw later_drop (omega arith);
       done = refl;
+      sound = sound;
+      young = young;
       turns = λ p st. (
         turn_to p rest a (record { outcome = o; state = after }) (Say reply),
         turned s before after line rest a o lines does acts p st (Say reply) (fed []),
@@ -169,7 +164,6 @@ stays_seated s line rest phase seat lines alike =
       still = refl;
       done = refl;
       seat = record {
-        built = seat.built;
         few = seat.few;
         done = seat.done;
         at_line = let P : List Line → Type 0 = λ ls. IsAtLine ls phase in subst P (sym lines) alike.at_phase;

@@ -1,5 +1,5 @@
--- Laws of actions that change one domain alone.
-use Rattle.std.proofs.Common.{◌≡◌, ◌≢◌, ℕ, Some, None, List, refl, sym, ap, ◌∙◌, cond, Bool, true, false, if◌then◌else◌}
+-- Laws of the world's domains, and of actions that change one of them alone.
+use Rattle.std.proofs.Common.{◌≡◌, ◌≢◌, ℕ, Some, None, Result, Ok, Err, OnErr, List, refl, sym, ap, ◌∙◌, cond, Bool, true, false, if◌then◌else◌}
 use Rattle.std.proofs.lemmas.Bool.Decides.{nat_tests}
 use Rattle.std.proofs.Common.{arith}
 use Rattle.std.proofs.lemmas.Map.Steps.{set_value_same}
@@ -7,13 +7,17 @@ use Rattle.std.specs.Ordering.{nat_cmp}
 use Rattle.std.specs.BTreeMap.{is_at}
 use Rattle.argo_model.specs.declared.action.Action.{Action}
 use Rattle.argo_model.specs.declared.action.Action.TheVariants.{Put}
-use Rattle.argo_model.specs.declared.action.Outcome.{Outcome}
 use Rattle.argo_model.specs.declared.action.Outcome.TheVariants.{Done, Fault, Gone}
 use Rattle.argo_model.specs.declared.state.Domain.{Domain}
 use Rattle.argo_model.specs.declared.state.Live.{Live}
 use Rattle.argo_model.specs.State.{State, domain_of, set_domain, set_live, life_in, has_page}
-use Rattle.argo_model.specs.Act.{told, act_of, act_if_there, act_if_live, put_into}
+use Rattle.argo_model.specs.Act.{told, act_if_there, act_if_live, put_into}
 use Rattle.argo_model.specs.World.{ActsAlone}
+
+-- what holds in any case holds after an error
+pub in_any_case : {T E P : Type 0} (r : Result T E) → P → OnErr r P
+in_any_case (Ok x) p = tt
+in_any_case (Err e) p = p
 
 -- a domain put back as it was changes nothing
 pub set_domain-same : (s : State) (d : ℕ) (x : Domain) → domain_of s d ≡ Some x → set_domain s d x ≡ s
@@ -34,29 +38,13 @@ acts_alone_gone g a x dead s d e =
     ∙ ap (λ o. act_if_live s d x o a) dead
     ∙ ap (λ t. told Gone t) (sym (set_domain-same s d x e))
 
--- who lives performs the action
-pub acts_alone : (g : ℕ) (a : Action) (x : Domain) (live : Live) (o : Outcome) (new : Domain) → life_in g x ≡ Some live
-    → ((s : State) (d : ℕ) → act_of s d x live a ≡ record { outcome = o; state = set_domain s d new }) → ActsAlone g a x o new
-acts_alone g a x live o new lives does s d e =
-    ap (λ o. act_if_there s d g o a) e ∙ ap (λ o. act_if_live s d x o a) lives ∙ does s d
-
--- an action that changes nothing
-pub acts_alone_still : (g : ℕ) (a : Action) (x : Domain) (live : Live) (o : Outcome) → life_in g x ≡ Some live
-    → ((s : State) (d : ℕ) → act_of s d x live a ≡ told o s) → ActsAlone g a x o x
-acts_alone_still g a x live o lives does s d e =
-    ap (λ o. act_if_there s d g o a) e ∙ ap (λ o. act_if_live s d x o a) lives ∙ does s d
-    ∙ ap (λ t. told o t) (sym (set_domain-same s d x e))
-
 -- a domain whose life is said again is the same
-life_again : (x : Domain) (live : Live) → x.life ≡ Some live → record x { life = Some live } ≡ x
+pub life_again : (x : Domain) (live : Live) → x.life ≡ Some live → record x { life = Some live } ≡ x
 life_again x live e = ap (λ l. record x { life = l }) (sym e)
 
--- an action that changes nothing, of a domain that lives in the generation named
-pub acts_still : (g : ℕ) (a : Action) (x : Domain) (live : Live) (o : Outcome) → x.generation ≡ g → x.life ≡ Some live
-    → ((s : State) (d : ℕ) → act_of s d x live a ≡ told o s) → ActsAlone g a x o (record x { life = Some live })
-acts_still g a x live o same lives does s d e =
-    acts_alone_still g a x live o (life_in-own g x same ∙ lives) does s d e
-    ∙ ap (λ y. record { outcome = o; state = set_domain s d y }) (sym (life_again x live lives))
+-- a domain that lives on as it did has not changed
+pub set_live-same : (s : State) (d : ℕ) (x : Domain) (live : Live) → domain_of s d ≡ Some x → x.life ≡ Some live → set_live s d x live ≡ s
+set_live-same s d x live there lives = ap (λ y. set_domain s d y) (life_again x live lives) ∙ set_domain-same s d x there
 
 -- a put, which changes the memory and the rings where the page is there
 put_cases : (s : State) (d : ℕ) (x : Domain) (live new : Live) (b : Bool) → domain_of s d ≡ Some x → x.life ≡ Some live
@@ -64,7 +52,7 @@ put_cases : (s : State) (d : ℕ) (x : Domain) (live new : Live) (b : Bool) → 
     ≡ record { outcome = cond b Done Fault; state = set_live s d x (cond b new live) }
 put_cases s d x live new true e lives = refl
 put_cases s d x live new false e lives =
-    ap (λ t. told Fault t) (sym (ap (λ y. set_domain s d y) (life_again x live lives) ∙ set_domain-same s d x e))
+    ap (λ t. told Fault t) (sym (set_live-same s d x live e lives))
 
 pub acts_put : (g : ℕ) (x : Domain) (live : Live) (page off : ℕ) (bytes : List ℕ) → x.generation ≡ g → x.life ≡ Some live
     → ActsAlone g (Put page off bytes) x (if has_page live page then Done else Fault) (record x { life = Some (if has_page live page then put_into live page off bytes else live) })

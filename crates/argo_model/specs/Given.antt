@@ -1,5 +1,5 @@
 -- How many bytes an outcome gives.
-use Rattle.std.specs.Prelude.{◌≡◌, ℕ, ◌≤◌, length}
+use Rattle.std.specs.Prelude.{◌≡◌, length}
 use Rattle.argo_model.specs.declared.action.Action.{Action}
 use Rattle.argo_model.specs.declared.action.Action.TheVariants.{Fetch}
 use Rattle.argo_model.specs.declared.action.Outcome.{Outcome}
@@ -9,8 +9,3 @@ use Rattle.argo_model.specs.declared.action.Outcome.TheVariants.{Bytes}
 abbrev pub GivesAsked : Action → Outcome → Type 0
 GivesAsked (Fetch page off n) (Bytes bs) = length bs ≡ n
 GivesAsked a o = Unit {0}
-
--- no more bytes than this come with the outcome
-abbrev pub GivesAtMost : ℕ → Outcome → Type 0
-GivesAtMost n (Bytes bs) = length bs ≤ n
-GivesAtMost n o = Unit {0}

@@ -10,7 +10,7 @@ use Rattle.argo_model.specs.Machine.{KeepsCourse, sections_of}
 
 -- it is what the run comes to
 abbrev pub Keeps : Kept → Course → Type 0
-Keeps k c = KeepsCourse k.seats.items k.world k.runs.items k.done.items k.totals.items c
+Keeps k c = KeepsCourse k.seats.items k.world k.runs.items k.done.items k.reply_steps.items k.totals.items c
 
 -- the section at the place has a line left
 pub record IsOpenAt (seats : List Seat) (v : ℕ) : Type 0 where

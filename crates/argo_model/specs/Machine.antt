@@ -9,8 +9,10 @@ use Rattle.argo_model.specs.declared.scripts.DomainLine.{DomainLine}
 use Rattle.argo_model.specs.declared.action.Outcome.{Outcome}
 use Rattle.argo_model.specs.Script.{Script, Section}
 use Rattle.argo_model.specs.State.{State}
+use Rattle.argo_model.specs.Sound.{IsSoundWorld, IsYoungWorld}
 use Rattle.argo_model.specs.Run.{Course, Progress, run, next_turn}
 use Rattle.argo_model.specs.Final.{runs_of, schedule_of, done_of, totals_of}
+use Rattle.argo_model.specs.Replies.{KeepsSteps}
 use Rattle.argo_model.specs.Seat.{IsSeat, Stands, seat_left}
 
 -- a machine: what it runs, the schedule so far, and how many steps are to come at most
@@ -52,11 +54,14 @@ pub record AreSmall (seats : List Seat) (runs : List Run) (totals : List Totals)
   pub as_many : length totals ≡ length seats
 
 -- what the machine keeps is what the run comes to
-pub record KeepsCourse (seats : List Seat) (state : State) (runs : List Run) (done : List DoneLine) (totals : List Totals) (c : Course) : Type 0 where
+pub record KeepsCourse (seats : List Seat) (state : State) (runs : List Run) (done : List DoneLine) (reply_steps : List ℕ) (totals : List Totals) (c : Course) : Type 0 where
   pub state_is : state ≡ c.state
+  pub sound : IsSoundWorld state
+  pub young : IsYoungWorld (length (schedule_of runs) + 1) state
   pub seats_stand : AllStand seats c.sections
   pub each_step : length c.steps ≡ length (schedule_of runs)
   pub runs_are : runs ≡ runs_of (schedule_of runs)
   pub done_is : done ≡ done_of c.steps
+  pub replies_are : KeepsSteps done reply_steps c.steps
   pub totals_are : totals ≡ map (totals_of c.steps) (range_with_len 0 (length seats))
   pub small : AreSmall seats runs totals

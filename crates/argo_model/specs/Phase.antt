@@ -1,45 +1,70 @@
 -- How far a line is, as the machine keeps it in place of all the line's outcomes.
-use Rattle.std.specs.Prelude.{◌≡◌, ℕ, ◌+◌, ◌<◌, ◌≤◌, List, length, Option, Some, None, vec_len, vec_capacity}
+use Rattle.std.specs.Prelude.{◌≡◌, ℕ, ◌+◌, ◌-◌, min, ◌<◌, ◌≤◌, Bool, List, length, Option, Some, None, vec_len, vec_capacity}
+use Rattle.argo_model.specs.declared.cursor.Cursor.{Cursor}
 use Rattle.argo_model.specs.Cursor.{pieces_left, IsSound}
 use Rattle.argo_model.specs.declared.phase.Phase.{Phase}
-use Rattle.argo_model.specs.declared.phase.Phase.TheVariants.{Putting, Fetching, Ended}
+use Rattle.argo_model.specs.declared.phase.Phase.TheVariants.{Reading, Writing, Asking, Ended}
+use Rattle.argo_model.specs.declared.phases.purpose.Purpose.{Purpose}
+use Rattle.argo_model.specs.declared.phases.text.Text.{Text}
 use Rattle.argo_model.specs.declared.line.Line.{Line}
-use Rattle.argo_model.specs.declared.line.Line.TheVariants.{Store, Load}
+use Rattle.argo_model.specs.declared.scripts.Actor.{Actor}
+use Rattle.argo_model.specs.declared.scripts.Actor.TheVariants.{Vcpu, Control}
 use Rattle.argo_model.specs.declared.action.Action.TheVariants.{Rest}
 use Rattle.argo_model.specs.declared.action.Outcome.{Outcome}
 use Rattle.argo_model.specs.declared.reply.Reply.{Reply}
-use Rattle.argo_model.specs.declared.reply.Reply.TheVariants.{Stored, Hex, Fault}
 use Rattle.argo_model.specs.Given.{GivesAsked}
-use Rattle.argo_model.specs.Ranges.{last_of}
-use Rattle.argo_model.specs.Program.{Next, Do, Say, Rests, put_all, fetch_all}
+use Rattle.argo_model.specs.Script.{is_vcpu_line, is_control_line}
+use Rattle.argo_model.specs.Ranges.{last_of, collect}
+use Rattle.argo_model.specs.Program.{Next, Do, Say, Rests, ask, put_all}
+use Rattle.argo_model.specs.Purpose.{after_read, after_fault, HasSize, IsPurpose, most_after}
+use Rattle.argo_model.specs.Text.{text_of, after_put, if_not_put, IsText, most_after_put}
+use Rattle.argo_model.specs.Question.{action_of, answered_by, IsQuestion, most_after_answer}
 
--- what the line still does from this phase on; a phase of another line does nothing that counts
+-- what the line still does from this phase on
 abbrev pub rest_of : Line → Phase → Rests
-rest_of (Store at bytes) (Putting c) os = put_all (pieces_left c) (last_of c.left bytes) (Say Fault) (λ os. Say Stored) os
-rest_of (Load at n) (Fetching c got) os = fetch_all (pieces_left c) got.items (Say Fault) (λ bs os. Say (Hex bs)) os
-rest_of line phase os = Do Rest
+rest_of line (Reading c got purpose) os = collect (pieces_left c) got.items (after_fault purpose) (after_read purpose) os
+rest_of line (Writing c text) os = put_all (pieces_left c) (last_of c.left (text_of line text)) (if_not_put text) (after_put text) os
+rest_of line (Asking q) os = ask (action_of q) (answered_by q) os
+rest_of line Ended os = Do Rest
+
+-- a range is to be fetched, beside so many bytes that were
+pub record IsReading (c : Cursor) (got : ℕ) (purpose : Purpose) : Type 0 where
+  pub some : 0 < c.left
+  pub sound : IsSound c
+  pub size : HasSize (got + c.left) purpose
+  pub ready : IsPurpose purpose
+
+-- a range is to be put, the last bytes of the text
+pub record IsWriting (line : Line) (c : Cursor) (text : Text) : Type 0 where
+  pub some : 0 < c.left
+  pub sound : IsSound c
+  pub size : c.left ≤ length (text_of line text)
+  pub ready : IsText text
 
 -- the line is at this phase, and has an action to come
 abbrev pub IsAtPhase : Line → Phase → Type 0
-IsAtPhase (Store at bytes) (Putting c) = (0 < c.left) × (c.left ≤ length bytes) × IsSound c
-IsAtPhase (Load at n) (Fetching c got) = (0 < c.left) × (c.left ≤ n) × IsSound c
-IsAtPhase line phase = ⊥
+IsAtPhase line (Reading c got purpose) = IsReading c (length got.items) purpose
+IsAtPhase line (Writing c text) = IsWriting line c text
+IsAtPhase line (Asking q) = IsQuestion q
+IsAtPhase line Ended = ⊥
 
 -- the outcome is one that the next action can have
 abbrev pub CanFollow : Next → Outcome → Type 0
 CanFollow (Do a) o = GivesAsked a o
 CanFollow (Say reply) o = ⊥
 
--- all the bytes to come have their room
+-- the bytes of the next piece have their room
 abbrev pub HasRoom : Phase → Type 0
-HasRoom (Putting c) = Unit {0}
-HasRoom (Fetching c got) = vec_len got + c.left ≤ vec_capacity got
+HasRoom (Reading c got purpose) = vec_len got + min c.left (4096 - c.off) ≤ vec_capacity got
+HasRoom (Writing c text) = Unit {0}
+HasRoom (Asking q) = Unit {0}
 HasRoom Ended = Unit {0}
 
 -- how many actions are to come at most
 abbrev pub phase_left : Phase → ℕ
-phase_left (Putting c) = length (pieces_left c)
-phase_left (Fetching c got) = length (pieces_left c)
+phase_left (Reading c got purpose) = length (pieces_left c) + most_after purpose
+phase_left (Writing c text) = length (pieces_left c) + most_after_put text
+phase_left (Asking q) = most_after_answer q + 1
 phase_left Ended = 0
 
 -- nothing that the line does is changed
@@ -52,3 +77,8 @@ pub record GoesOnAlike (line : Line) (old new : Phase) : Type 0 where
 abbrev pub fed_to : Line → Phase → Option Reply → Rests
 fed_to line phase None os = rest_of line phase os
 fed_to line phase (Some reply) os = Say reply
+
+-- a line that the actor's section may have
+abbrev pub is_line_for : Actor → Line → Bool
+is_line_for (Vcpu d generation) line = is_vcpu_line line
+is_line_for Control line = is_control_line line

@@ -1,16 +1,16 @@
 -- How a section stands, as the machine keeps it and as the run has it.
-use Rattle.std.specs.Prelude.{◌≡◌, ℕ, ◌+◌, ◌<◌, ◌≤◌, List, [], ◌∷◌, ◌++◌, length, drop, sum_by, IsTrue, Option, Some, IfSome}
+use Rattle.std.specs.Prelude.{◌≡◌, ℕ, ◌+◌, ◌<◌, ◌≤◌, List, [], ◌∷◌, ◌++◌, length, drop, sum_by, Option, Some, IfSome}
 use Rattle.argo_model.specs.declared.seat.Seat.{Seat}
 use Rattle.argo_model.specs.declared.phase.Phase.{Phase}
 use Rattle.argo_model.specs.declared.line.Line.{Line}
 use Rattle.argo_model.specs.declared.scripts.Actor.{Actor}
 use Rattle.argo_model.specs.declared.action.Outcome.{Outcome}
 use Rattle.argo_model.specs.declared.reply.Reply.{Reply}
-use Rattle.argo_model.specs.Built.{is_built_section}
 use Rattle.argo_model.specs.Program.{program}
 use Rattle.argo_model.specs.Steps.{most_steps}
 use Rattle.argo_model.specs.Phase.{rest_of, IsAtPhase, phase_left}
 use Rattle.argo_model.specs.State.{State}
+use Rattle.argo_model.specs.Sound.{IsSoundWorld, IsYoungWorld}
 use Rattle.argo_model.specs.Run.{Progress, Turn, turn}
 
 -- the next line is at its phase
@@ -23,7 +23,6 @@ abbrev pub lines_left : Seat → List Line
 lines_left s = drop s.done s.part.lines
 
 pub record IsSeat (s : Seat) : Type 0 where
-  pub built : IsTrue (is_built_section s.part)
   pub few : length s.part.lines ≤ 8192
   pub done : s.done ≤ length s.part.lines
   pub at_line : IsAtLine (lines_left s) s.phase
@@ -50,6 +49,8 @@ pub record TakesTurn (old : Seat) (before : State) (outcome : Outcome) (reply : 
   pub seat : IsSeat new
   pub nearer : seat_left new < seat_left old
   pub done : IfSome reply (λ r. new.done ≡ old.done + 1)
+  pub sound : IsSoundWorld after
+  pub young : (n : ℕ) → IsYoungWorld n before → IsYoungWorld (n + 1) after
   pub turns : (p : Progress) → Stands old p → (t : Turn) × (turn before p ≡ Some t) × (t.line ≡ old.done + 1) × (t.outcome ≡ outcome) × (t.reply ≡ reply) × (t.state ≡ after) × Stands new t.progress
 
 -- the first of these lines begins at this phase

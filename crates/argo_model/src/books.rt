@@ -42,19 +42,21 @@ pub(crate) fn note_run(runs: &mut Vec<Run>, v: u32)
     runs.push_reserved(Run { vcpu: v, count: 1 });
 }
 
-/// Adds a step with this outcome to a section's totals.
-pub(crate) fn note_totals(totals: &mut Totals, outcome: &Outcome)
+/// Adds a step with this outcome to a section's totals, and answers the step's number.
+pub(crate) fn note_totals(totals: &mut Totals, outcome: &Outcome) -> u64
     requires steps { totals.old.steps < 2 ^ 63 }
     requires accepted { totals.old.accepted < 2 ^ 63 }
     requires bytes { totals.old.bytes < 2 ^ 63 }
     ensures totals { totals.new ≡ totals_after totals.old outcome.now }
     ensures small { size_or_none (accepted_size outcome.now) < 2 ^ 32 }
+    ensures step { result ≡ totals.old.steps + 1 }
 {
     totals.steps += 1;
     if let Outcome::Accepted(n) = outcome {
         totals.accepted += 1;
         totals.bytes += u64::from(*n);
     }
+    totals.steps
 }
 
 /// Notes that a line of a section is done, where its reply came.

@@ -27,6 +27,21 @@ impl Cursor {
         }
     }
 
+    /// The range of `n` bytes that begins so many bytes past an address.
+    pub(crate) fn beyond(at: u64, by: u32, n: u32) -> Cursor
+        requires { by < 2 ^ 31 }
+        ensures pieces { pieces_left result ≡ pieces (at + by) n }
+        ensures left { result.left ≡ n }
+        ensures sound { IsSound result }
+    {
+        let off = (at % 4096) as u32 + by;
+        Cursor {
+            page: at / 4096 + u64::from(off / 4096),
+            off: off % 4096,
+            left: n,
+        }
+    }
+
     /// The first piece, and what is left after it.
     pub(crate) fn split_first(self) -> (Piece, Cursor)
         requires some { 0 < self.left }
@@ -34,6 +49,7 @@ impl Cursor {
         ensures pieces { pieces_left self ≡ result.0 ∷ pieces_left result.1 }
         ensures size { (0 < result.0.n) × (result.0.n + result.1.left ≡ self.left) }
         ensures inside { result.0.off + result.0.n ≤ 4096 }
+        ensures first { result.0.n ≡ min self.left (4096 - self.off) }
         ensures still_sound { IsSound result.1 }
     {
         let n = self.left.min(PAGE_BYTES - self.off);

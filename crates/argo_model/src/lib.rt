@@ -5,28 +5,43 @@
 #![tactic(auto)]
 
 mod action;
+mod acts;
 mod books;
+mod closed;
+mod closed_domains;
 mod closing;
 mod copies;
 mod cursor;
 pub mod examples;
 mod finals;
+mod layout;
 mod line;
 mod machine;
 mod memory;
+mod met;
+mod notices;
 mod phase;
+mod phases;
 mod puts;
 mod ranges;
+mod replies;
 mod reply;
 mod ring_bytes;
+mod rings;
 mod scripts;
 mod seat;
 mod seats;
+mod signals;
 mod slots;
+mod spelling;
+mod starts;
 mod state;
 mod world;
 
 pub use action::{Action, Answer, Load, Outcome};
+pub use closed::{
+    ClosedDomain, ClosedDomains, ClosedRing, ClosedRings, Heard, HeardLine, HeardLines,
+};
 pub use closing::{
     DoneLine, DoneList, Final, FinalDomain, FinalDomains, FinalRing, FinalRings, NoticeLine,
     NoticeLines, Run, Runs, TotalList, Totals,

@@ -1,16 +1,19 @@
-ghost use Rattle.std.specs.Prelude.{◌≡◌, ◌+◌, ◌<◌, ◌^◌, ◌↔◌, [], false, IsTrue, IfOk, OnErr};
+ghost use Rattle.std.specs.Prelude.{◌≡◌, ◌+◌, ◌<◌, ◌^◌, ◌↔◌, [], length, false, IsTrue, IfOk, OnErr};
 ghost use Rattle.std.specs.List.{list_all};
-ghost use Rattle.argo_model.specs.Built.{is_built};
-ghost use Rattle.argo_model.specs.Final.{final_of};
+ghost use Rattle.argo_model.specs.Closed.{closed_domains, heard_all};
+ghost use Rattle.argo_model.specs.Final.{final_of, schedule_of};
 ghost use Rattle.argo_model.specs.Machine.{AreSmall, OneStep};
 ghost use Rattle.argo_model.specs.Run.{run, is_open, is_finished, IsComplete};
+ghost use Rattle.argo_model.specs.Sound.{IsSoundWorld, IsYoungWorld};
 
 use crate::books::{fresh_totals, note_done, note_run, note_totals};
+use crate::replies::{heard_of_all, note_step};
 use crate::seat::Seat;
 use crate::seats::seats_of;
 use crate::world::World;
 use crate::{
-    DomainLines, DoneLine, DoneList, Final, Outcome, Run, Runs, Scripts, TotalList, Totals,
+    ClosedDomains, DomainLines, DoneLine, DoneList, Final, Heard, Outcome, Run, Runs, Scripts,
+    TotalList, Totals,
 };
 use argo_base::NoMemory;
 use std::alloc::Global;
@@ -40,7 +43,6 @@ impl Model for Machine {
 impl Machine {
     /// The machine before the first step of a script.
     pub fn new(alloc: Global, scripts: &Scripts) -> Result<Machine, NoMemory>
-        requires { IsTrue (is_built scripts.now) }
         ensures script { IfOk result (λ m. m.script ≡ scripts.now) }
         ensures schedule { IfOk result (λ m. m.schedule ≡ []) }
         ensures left { IfOk result (λ m. m.left < 2 ^ 32) }
@@ -57,6 +59,7 @@ impl Machine {
                 world,
                 runs: Vec::new(alloc),
                 done: Vec::new(alloc),
+                reply_steps: Vec::new(alloc),
                 totals,
             },
         })
@@ -79,6 +82,24 @@ impl Machine {
         ensures err { OnErr result (self.new ≡ self.old) }
     {
         self.kept.advance(alloc, v)
+    }
+
+    /// The domains as they stand, and for each section its replies so far with their steps. All is copied, the domains' memory
+    /// too.
+    pub fn closed(&self, alloc: Global) -> Result<(ClosedDomains, Heard), NoMemory>
+        ensures domains { IfOk result (λ c. c.0 ≡ closed_domains (run self.now.script self.now.schedule).state) }
+        ensures heard { IfOk result (λ c. c.1 ≡ heard_all (run self.now.script self.now.schedule)) }
+    {
+        let kept = &self.kept;
+        let domains = kept.world.closed(alloc)?;
+        let sections = kept.seats.len();
+        let heard = heard_of_all(
+            alloc,
+            sections,
+            kept.done.as_slice(),
+            kept.reply_steps.as_slice(),
+        )?;
+        Ok((domains, heard))
     }
 
     /// What a report shows of the whole run. After want of memory the machine is lost.
@@ -112,6 +133,8 @@ pub(crate) struct Kept {
     world: World,
     runs: Vec<Run>,
     done: Vec<DoneLine>,
+    // for each of these lines, the number of its section's step at which its reply came
+    reply_steps: Vec<u64>,
     totals: Vec<Totals>,
 }
 
@@ -122,17 +145,21 @@ impl Kept {
     fn advance(&mut self, alloc: Global, v: u32) -> Result<Outcome, NoMemory>
         requires small { AreSmall self.old.seats.items self.old.runs.items self.old.totals.items }
         requires open { IsOpenAt self.old.seats.items v }
+        requires sound { IsSoundWorld self.old.world }
+        requires young { IsYoungWorld (length (schedule_of self.old.runs.items) + 1) self.old.world }
         ensures ok { IfOk result (λ o. AdvancesBy self.old v o self.new) }
         ensures err { OnErr result (StaysKept self.old self.new) }
     {
         let place = v as usize;
         self.runs.reserve(1)?;
         self.done.reserve(1)?;
+        self.reply_steps.reserve(1)?;
         let seat = &mut self.seats[place];
         let line = seat.done + 1;
         let (outcome, reply) = seat.turn(alloc, &mut self.world)?;
         note_run(&mut self.runs, v);
-        note_totals(&mut self.totals[place], &outcome);
+        let step = note_totals(&mut self.totals[place], &outcome);
+        note_step(&mut self.reply_steps, step, &reply);
         note_done(&mut self.done, v, line, reply);
         Ok(outcome)
     }

@@ -1,7 +1,6 @@
-ghost use Rattle.std.specs.Prelude.{◌≡◌, ◌+◌, ◌<◌, ◌≤◌, length, vec_len, vec_capacity};
+ghost use Rattle.std.specs.Prelude.{◌≡◌, ◌+◌, ◌-◌, ◌<◌, ◌≤◌, min, length, vec_len, vec_capacity};
 ghost use Rattle.argo_model.specs.Cursor.{IsSound, pieces_left};
-ghost use Rattle.argo_model.specs.Ranges.{Advances, PutMoves, FetchMoves, IsNearer};
-ghost use Rattle.argo_model.specs.Given.{GivesAtMost};
+ghost use Rattle.argo_model.specs.Ranges.{Advances, PutMoves, FetchMoves, IsNearer, IsCounted, GivesFirst};
 
 use crate::Outcome;
 use crate::cursor::Cursor;
@@ -33,14 +32,15 @@ pub(crate) fn put_moved(rest: &mut Cursor, outcome: &Outcome) -> Moved
     }
 }
 
-/// Moves a range that is fetched on by an outcome of its first piece. What was fetched so far, `got`, has room for the rest.
+/// Moves a range that is fetched on by an outcome of its first piece. What was fetched so far, `got`, has room for the piece.
 pub(crate) fn fetch_moved(rest: &mut Cursor, got: &mut Vec<u8>, outcome: &Outcome) -> Moved
     requires some { 0 < rest.old.left }
     requires sound { IsSound rest.old }
-    requires room { vec_len got.old + rest.old.left ≤ vec_capacity got.old }
-    requires few { GivesAtMost rest.old.left outcome.now }
+    requires room { vec_len got.old + min rest.old.left (4096 - rest.old.off) ≤ vec_capacity got.old }
+    requires first { GivesFirst rest.old outcome.now }
     ensures moves { FetchMoves rest.old got.old.items outcome.now result rest.new got.new.items }
     ensures nearer { IsNearer result rest.old rest.new }
+    ensures counted { IsCounted result (length got.old.items) rest.old.left (length got.new.items) rest.new.left }
 {
     match outcome {
         Outcome::Bytes(bytes) => {

@@ -1,7 +1,7 @@
-ghost use Rattle.std.specs.Prelude.{◌≡◌, ◌+◌, ◌<◌, ◌≤◌, ◌↔◌, length, drop, IsTrue, IfOk, OnOk, OnErr, sum_by, IfSome, IfNone};
+ghost use Rattle.std.specs.Prelude.{◌≡◌, ◌+◌, ◌^◌, ◌<◌, ◌≤◌, ◌↔◌, length, drop, IsTrue, IfOk, OnOk, OnErr, sum_by, IfSome, IfNone};
 ghost use Rattle.argo_model.specs.Script.{is_lawful_section, Section};
-ghost use Rattle.argo_model.specs.Built.{is_built_section};
 ghost use Rattle.argo_model.specs.Seat.{Begins};
+ghost use Rattle.argo_model.specs.Sound.{IsSoundWorld, IsYoungWorld};
 
 use crate::phase::Phase;
 use crate::world::World;
@@ -24,8 +24,7 @@ impl Seat {
 
     /// The section before its first step.
     pub(crate) fn new(alloc: Global, part: Part) -> Seat
-        requires built { IsTrue (is_built_section part) }
-        requires few { length part.lines ≤ 8192 }
+        requires { length part.lines ≤ 8192 }
         ensures part { result.part ≡ part }
         ensures seat { IsSeat result }
         ensures stands { Stands result (at_first_line part) }
@@ -54,6 +53,8 @@ impl Seat {
     ) -> Result<(Outcome, Option<Reply>), NoMemory>
         requires seat { IsSeat self.old }
         requires open { self.old.done < length self.old.part.lines }
+        requires sound { IsSoundWorld world.old }
+        requires young { IsYoungWorld (2 ^ 28) world.old }
         ensures ok { IfOk result (λ r. TakesTurn self.old world.old r.0 r.1 self.new world.new) }
         ensures err { OnErr result (StaysSeated self.old self.new) }
         ensures world_err { OnErr result (world.new ≡ world.old) }
@@ -73,12 +74,11 @@ impl Seat {
 
 // The phase at which a line of a section begins, or the end.
 fn phase_at(alloc: Global, part: &Part, done: u32) -> Phase
-    requires built { IsTrue (is_built_section part.now) }
     ensures { Begins part.now.actor (drop done part.now.lines) result }
 {
     let place = done as usize;
     if place < part.lines.len() {
-        Phase::start(alloc, part.lines.get(place))
+        Phase::start(alloc, part.actor, part.lines.get(place))
     } else {
         Phase::Ended
     }

@@ -1,6 +1,4 @@
-ghost use Rattle.std.specs.Prelude.{◌≡◌, ◌≤◌, IfOk, IsTrue, map, sum_by, All, length};
-ghost use Rattle.std.specs.List.{list_all};
-ghost use Rattle.argo_model.specs.Built.{is_built_section};
+ghost use Rattle.std.specs.Prelude.{◌≡◌, ◌≤◌, IfOk, map, sum_by, All, length};
 ghost use Rattle.argo_model.specs.Run.{at_first_line};
 ghost use Rattle.argo_model.specs.Seats.{most_of, AreSeatsOf};
 
@@ -12,8 +10,7 @@ use std::alloc::Global;
 
 /// A seat for each part, before the first step.
 pub(crate) fn seats_of(alloc: Global, parts: &[Part]) -> Result<Vec<Seat>, NoMemory>
-    requires built { IsTrue (list_all is_built_section parts.now) }
-    requires few { sum_by (λ x. length x.lines) parts.now ≤ 8192 }
+    requires { sum_by (λ x. length x.lines) parts.now ≤ 8192 }
     ensures { IfOk result (λ seats. AreSeatsOf seats.items parts.now) }
 {
     let mut seats = Vec::new(alloc);

@@ -1,6 +1,5 @@
 -- Laws of how a run ends.
 use Rattle.std.proofs.Common.{◌≡◌, ◌⊎◌, inl, inr, ℕ, ◌<◌, Bool, true, false, cond, List, ◌++◌, length, Option, Some, None, Result, Ok, Err, refl, sym, ap, ◌∙◌, subst, arith, nat_lt, unwrap_or}
-use Rattle.std.specs.List.{list_any}
 use Rattle.std.proofs.lemmas.Bool.Decides.{nat_tests}
 use Rattle.std.proofs.lemmas.List.{append-nil, length-append}
 use Rattle.argo_outside.specs.Source.{behind, IsAtEnd}
@@ -9,8 +8,7 @@ use Rattle.argo_model.specs.declared.closing.Final.{Final}
 use Rattle.argo_model.specs.Script.{Script}
 use Rattle.argo_model.specs.Report.{report_of}
 use Rattle.script_text.specs.declared.kind.ScriptFault.{ScriptFault}
-use Rattle.script_text.specs.declared.kind.ScriptKind.TheVariants.{NotYet, Size}
-use Rattle.script_text.specs.FirstForms.{built_of, only_first, is_later_byte}
+use Rattle.script_text.specs.declared.kind.ScriptKind.TheVariants.{Size}
 use Rattle.script_text.specs.Scripts.{fault, scripts_of, script_of}
 use Rattle.script_text.specs.Lines.{lines_of, said_from}
 use Rattle.serial_run.specs.Picks.{IsRunByPicks}
@@ -34,8 +32,8 @@ ran_script seed script shown written written_new rose s.NoMemory ran (inl same) 
 ran_script seed script shown written written_new rose s.NoMemory ran (inr cut) = inr (report_of shown, report_is seed script shown ran, cut)
 
 -- the end of a run whose report was written
-pub served : (seed : ℕ) (text : List ℕ) (script : Script) (shown : Final) (written written_new : Option (List ℕ)) (rose : Type 0) (status : Status) → built_of text ≡ Ok script
-    → IsRunByPicks script seed shown → WroteReport (report_of shown) written written_new rose status → ServedFor seed (built_of text) written written_new rose status
+pub served : (seed : ℕ) (text : List ℕ) (script : Script) (shown : Final) (written written_new : Option (List ℕ)) (rose : Type 0) (status : Status) → scripts_of text ≡ Ok script
+    → IsRunByPicks script seed shown → WroteReport (report_of shown) written written_new rose status → ServedFor seed (scripts_of text) written written_new rose status
 served seed text script shown written written_new rose status is ran wrote =
     let P : Result Script ScriptFault → Type 0 = λ given. ServedFor seed given written written_new rose status in
     subst P (sym is) (ran_script seed script shown written written_new rose status ran wrote)
@@ -51,7 +49,7 @@ script_ends seed (Err f) written written_new rose (s.Script line kind) h = (ap E
 script_ends seed given written written_new rose s.NoMemory h = tt
 
 no_script : (left left_new written written_new : Option (List ℕ)) (read : List ℕ) (status : Status) → IsRead left left_new read
-    → IfScript status (λ f. (built_of read ≡ Err f) × (written_new ≡ appended written (fault_text f)))
+    → IfScript status (λ f. (scripts_of read ≡ Err f) × (written_new ≡ appended written (fault_text f)))
     → IfScript status (λ f. IsNoScript f left left_new written written_new)
 no_script left left_new written written_new read s.Done is_read h = tt
 no_script left left_new written written_new read s.Usage is_read h = tt
@@ -62,9 +60,9 @@ no_script left left_new written written_new read s.NoMemory is_read h = tt
 
 -- status 5
 pub ends_no_script : (seed : ℕ) (left left_new written written_new : Option (List ℕ)) (read : List ℕ) (rose : Type 0) (status : Status) → IsRead left left_new read
-    → ServedFor seed (built_of read) written written_new rose status → IfScript status (λ f. IsNoScript f left left_new written written_new)
+    → ServedFor seed (scripts_of read) written written_new rose status → IfScript status (λ f. IsNoScript f left left_new written written_new)
 ends_no_script seed left left_new written written_new read rose status is_read h =
-    no_script left left_new written written_new read status is_read (script_ends seed (built_of read) written written_new rose status h)
+    no_script left left_new written written_new read status is_read (script_ends seed (scripts_of read) written written_new rose status h)
 
 agrees : (seed : ℕ) (given : Result Script ScriptFault) (written written_new : Option (List ℕ)) (rose : Type 0) (status : Status) → ServedFor seed given written written_new rose status
     → Agrees given status
@@ -81,21 +79,15 @@ agrees seed given written written_new rose s.NoMemory h = tt
 is_long : (n : ℕ) → 4194304 < n → nat_lt 4194304 n ≡ true
 is_long n long = grind (arith, nat_tests)
 
-same_either : (b : Bool) (given : Result Script ScriptFault) → given ≡ fault 0 NotYet → cond b (fault 0 NotYet) given ≡ fault 0 NotYet
-same_either true given same = refl
-same_either false given same = same
-
 -- a text of too many bytes is no script, whatever follows
-too_long : (text : List ℕ) → 4194304 < length text → built_of text ≡ fault 0 NotYet
-too_long text long =
-    let size : scripts_of text ≡ fault 0 Size = ap (λ b. cond b (fault 0 Size) (script_of (said_from 1 (lines_of text)))) (is_long (length text) long) in
-    same_either (list_any is_later_byte text) (only_first (scripts_of text)) (ap only_first size)
+too_long : (text : List ℕ) → 4194304 < length text → scripts_of text ≡ fault 0 Size
+too_long text long = ap (λ b. cond b (fault 0 Size) (script_of (said_from 1 (lines_of text)))) (is_long (length text) long)
 
-ended : (text : List ℕ) (left_new : Option (List ℕ)) (read : List ℕ) → behind text left_new ≡ Some read → IsAtEnd left_new ⊎ (length text ≡ 4194305) → built_of read ≡ built_of text
+ended : (text : List ℕ) (left_new : Option (List ℕ)) (read : List ℕ) → behind text left_new ≡ Some read → IsAtEnd left_new ⊎ (length text ≡ 4194305) → scripts_of read ≡ scripts_of text
 ended text None read told all = cc
 ended text (Some rest) read told (inl at_end) =
     let whole : text ++ rest ≡ read = ap (λ o. unwrap_or o read) told in
-    ap built_of (sym whole ∙ ap (λ ys. text ++ ys) at_end ∙ append-nil text)
+    ap scripts_of (sym whole ∙ ap (λ ys. text ++ ys) at_end ∙ append-nil text)
 ended text (Some rest) read told (inr long) =
     let whole : text ++ rest ≡ read = ap (λ o. unwrap_or o read) told in
     let n = length-append text rest in
@@ -104,14 +96,14 @@ ended text (Some rest) read told (inr long) =
     too_long read (subst P whole longer) ∙ sym (too_long text (omega (arith, long)))
 
 -- what was read answers for all that the source told
-pub same_answer : (left left_new : Option (List ℕ)) (text read : List ℕ) → IsRead left left_new text → left ≡ Some read → built_of read ≡ built_of text
+pub same_answer : (left left_new : Option (List ℕ)) (text read : List ℕ) → IsRead left left_new text → left ≡ Some read → scripts_of read ≡ scripts_of text
 same_answer left left_new text read is_read here = ended text left_new read (sym is_read.told ∙ here) is_read.all
 
 pub ends_agreeing : (seed : ℕ) (left left_new written written_new : Option (List ℕ)) (text : List ℕ) (rose : Type 0) (status : Status) → IsRead left left_new text
-    → ServedFor seed (built_of text) written written_new rose status → AgreesWith left status
+    → ServedFor seed (scripts_of text) written written_new rose status → AgreesWith left status
 ends_agreeing seed left left_new written written_new text rose status is_read h = λ read here.
     let P : Result Script ScriptFault → Type 0 = λ given. Agrees given status in
-    subst P (sym (same_answer left left_new text read is_read here)) (agrees seed (built_of text) written written_new rose status h)
+    subst P (sym (same_answer left left_new text read is_read here)) (agrees seed (scripts_of text) written written_new rose status h)
 
 complete : (seed : ℕ) (script : Script) (written written_new : Option (List ℕ)) (rose : Type 0) (status : Status) → RanScript seed script written written_new rose status → (rose → ⊥)
     → (status ≡ s.Done) ⊎ (status ≡ s.NoMemory)
@@ -123,7 +115,7 @@ complete seed script written written_new rose (s.Script line kind) h still = abs
 complete seed script written written_new rose s.NoMemory h still = inr refl
 
 pub ends_complete : (seed : ℕ) (left left_new written written_new : Option (List ℕ)) (text : List ℕ) (source_rose rose : Type 0) (status : Status) → IsRead left left_new text
-    → ServedFor seed (built_of text) written written_new rose status → IsComplete left source_rose rose status
+    → ServedFor seed (scripts_of text) written written_new rose status → IsComplete left source_rose rose status
 ends_complete seed left left_new written written_new text source_rose rose status is_read h = λ read script here is source_still still.
     let P : Result Script ScriptFault → Type 0 = λ given. ServedFor seed given written written_new rose status in
     complete seed script written written_new rose status (subst P (sym (same_answer left left_new text read is_read here) ∙ is) h) still

@@ -5,7 +5,7 @@ use Rattle.argo_model.specs.Final.{final_of}
 use Rattle.argo_model.specs.Report.{report_of}
 use Rattle.script_text.specs.declared.kind.ScriptFault.{ScriptFault}
 use Rattle.script_text.specs.Kind.{kind_text}
-use Rattle.script_text.specs.FirstForms.{built_of}
+use Rattle.script_text.specs.Scripts.{scripts_of}
 use Rattle.serial_run.specs.Picks.{ArePicks}
 
 abbrev pub usage_text : List ℕ
@@ -25,4 +25,4 @@ IsDueFor seed (Ok s) text = IsReport seed s text
 IsDueFor seed (Err f) text = text ≡ fault_text f
 
 abbrev pub IsDue : ℕ → List ℕ → List ℕ → Type 0
-IsDue seed read text = IsDueFor seed (built_of read) text
+IsDue seed read text = IsDueFor seed (scripts_of read) text

@@ -6,7 +6,7 @@ use Rattle.argo_outside.specs.Source.{behind, IsAtEnd}
 use Rattle.argo_outside.specs.Sink.{appended, CutShort}
 use Rattle.argo_model.specs.Script.{Script}
 use Rattle.script_text.specs.declared.kind.ScriptFault.{ScriptFault}
-use Rattle.script_text.specs.FirstForms.{built_of}
+use Rattle.script_text.specs.Scripts.{scripts_of}
 use Rattle.argo_run.specs.declared.status.Status.{Status}
 use Rattle.argo_run.specs.declared.status.Status.TheVariants as s
 use Rattle.argo_run.specs.Words.{seed_of}
@@ -23,7 +23,7 @@ pub record IsDone (seed : ℕ) (left left_new written written_new : Option (List
   pub told : left ≡ behind read left_new
   pub at_end : IsAtEnd left_new
   pub script : Script
-  pub is_script : built_of read ≡ Ok script
+  pub is_script : scripts_of read ≡ Ok script
   pub text : List ℕ
   pub is_report : IsReport seed script text
   pub whole : written_new ≡ appended written text
@@ -32,7 +32,7 @@ pub record IsDone (seed : ℕ) (left left_new written written_new : Option (List
 pub record IsNoScript (fault : ScriptFault) (left left_new written written_new : Option (List ℕ)) : Type 0 where
   pub read : List ℕ
   pub is_read : IsRead left left_new read
-  pub no_script : built_of read ≡ Err fault
+  pub no_script : scripts_of read ≡ Err fault
   pub whole : written_new ≡ appended written (fault_text fault)
 
 -- a part of the text that was due was written, and not all of it
@@ -83,12 +83,12 @@ Agrees given s.NoMemory = ⊤
 
 -- where the source tells its bytes, the status agrees with them
 abbrev pub AgreesWith : Option (List ℕ) → Status → Type 0
-AgreesWith left status = (read : List ℕ) → left ≡ Some read → Agrees (built_of read) status
+AgreesWith left status = (read : List ℕ) → left ≡ Some read → Agrees (scripts_of read) status
 
 -- where the source tells that its bytes are a script, and no count rose, the run is done or memory ran out
 abbrev pub IsComplete : Option (List ℕ) → Type 0 → Type 0 → Status → Type 0
 IsComplete left source_rose sink_rose status =
-    (read : List ℕ) (script : Script) → left ≡ Some read → built_of read ≡ Ok script → (source_rose → ⊥) → (sink_rose → ⊥)
+    (read : List ℕ) (script : Script) → left ≡ Some read → scripts_of read ≡ Ok script → (source_rose → ⊥) → (sink_rose → ⊥)
     → (status ≡ s.Done) ⊎ (status ≡ s.NoMemory)
 
 -- the seed of the words of the command line, where they have one

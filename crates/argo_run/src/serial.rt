@@ -2,7 +2,7 @@ ghost use Rattle.std.specs.Prelude.{◌≡◌, ◌≤◌, IfOk, IfErr};
 ghost use Rattle.std.specs.String.{string_bytes};
 ghost use Rattle.argo_outside.specs.Faults.{Rose};
 ghost use Rattle.argo_model.specs.Report.{report_of};
-ghost use Rattle.script_text.specs.FirstForms.{built_of};
+ghost use Rattle.script_text.specs.Scripts.{scripts_of};
 ghost use Rattle.argo_run.specs.Due.{fault_text};
 ghost use Rattle.argo_run.specs.Ends.{IsRead, IsDone, IsNoScript, IsCutShort, IsLeftOff, IfDone, IfUsage, IfSourceFault, IfSinkFault, IfScript, IfNoMemory, AgreesWith, IsComplete};
 ghost use Rattle.argo_run.specs.Serve.{WroteReport, WroteFault, ServedFor, IsReadFault};
@@ -61,7 +61,7 @@ fn read_text<S: Source>(alloc: Global, src: &mut S) -> Result<Bytes, Status>
 // Runs the script that the bytes are.
 fn serve<K: Sink>(alloc: Global, seed: u64, text: &[u8], out: &mut K) -> Status
     ensures count { K.faults out.old ≤ K.faults out.new }
-    ensures ends { ServedFor seed (built_of text.now) (K.written out.old) (K.written out.new)
+    ensures ends { ServedFor seed (scripts_of text.now) (K.written out.old) (K.written out.new)
         (Rose (K.faults out.old) (K.faults out.new)) result }
 {
     match read_scripts(alloc, text) {

@@ -80,15 +80,15 @@ fn a_sink_fails_and_the_report_is_cut_short(rt: HostRuntime) -> Result<(), Fail>
 
 #[test]
 fn no_script_is_told_by_its_line(rt: HostRuntime) -> Result<(), Fail> {
-    let mut src = source(rt.alloc(), b"argo 1\n\tdomain 1 pages 1\n", &[])?;
+    let mut src = source(rt.alloc(), b"argo 1\n\tdomain 1 pages 1\nvcpu x\n", &[])?;
     let mut out = sink(rt.alloc(), &[])?;
     let status = run_serial(rt.alloc(), 0, &mut src, &mut out);
-    let kind = ScriptKind::NotYet;
+    let kind = ScriptKind::Number;
     assert_eq!(rt;
         (status, status.number()),
-        (Status::Script { line: 0, kind }, 5)
+        (Status::Script { line: 3, kind }, 5)
     );
-    assert_eq!(rt; out.as_slice(), b"script line 0: not yet\n".as_slice());
+    assert_eq!(rt; out.as_slice(), b"script line 3: number\n".as_slice());
     Ok(())
 }
 

@@ -1,7 +1,7 @@
 -- The texts of the examples, computed.
 use Rattle.std.proofs.Common.{refl}
 use Rattle.std.proofs.lemmas.Bool.{lt-ltb}
-use Rattle.script_text.specs.Examples.{BothFormats, Faults, FirstForms}
+use Rattle.script_text.specs.Examples.{BothFormats, Faults}
 
 pub both_formats : BothFormats
 both_formats = (refl, refl)
@@ -26,6 +26,3 @@ faults = record {
   domain = refl;
   limit = refl;
 }
-
-pub first_forms : FirstForms
-first_forms = (refl, refl, refl)

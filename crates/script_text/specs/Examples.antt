@@ -5,9 +5,8 @@ use Rattle.argo_model.specs.declared.scripts.Actor.TheVariants as actors
 use Rattle.argo_model.specs.declared.line.Line.TheVariants as lines
 use Rattle.argo_model.specs.Script.{Script}
 use Rattle.script_text.specs.declared.kind.ScriptFault.{ScriptFault}
-use Rattle.script_text.specs.declared.kind.ScriptKind.TheVariants.{Size, Header, Word, Place, Count, Number, Hex, Range, Domain, Limit, NotYet}
+use Rattle.script_text.specs.declared.kind.ScriptKind.TheVariants.{Size, Header, Word, Place, Count, Number, Hex, Range, Domain, Limit}
 use Rattle.script_text.specs.Scripts.{fault, scripts_of}
-use Rattle.script_text.specs.FirstForms.{built_of}
 
 -- the lines, each with its line feed
 abbrev pub text : List (List ℕ) → List ℕ
@@ -67,10 +66,3 @@ pub record Faults : Type 0 where
   pub range : after_vcpu (codes "load 0 65" ∷ []) ≡ fault 4 Range
   pub domain : after_vcpu (codes "vcpu 2" ∷ []) ≡ fault 4 Domain
   pub limit : after_vcpu (codes "await 1048576" ∷ codes "await 1" ∷ []) ≡ fault 5 Limit
-
--- what is run so far
-abbrev pub FirstForms : Type 0
-FirstForms =
-    (built_of (text (codes "argo 1" ∷ [])) ≡ Ok (record { version = 1; domains = []; sections = [] }))
-    × (built_of second_text ≡ fault 0 NotYet)
-    × (built_of (codes "argo 1" ++ 13 ∷ []) ≡ fault 0 NotYet)

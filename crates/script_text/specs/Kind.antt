@@ -1,7 +1,7 @@
 -- The words for the kinds of fault.
 use Rattle.std.specs.Prelude.{ℕ, List, codes}
 use Rattle.script_text.specs.declared.kind.ScriptKind.{ScriptKind}
-use Rattle.script_text.specs.declared.kind.ScriptKind.TheVariants.{Size, Header, Word, Place, Count, Number, Hex, Range, Domain, Limit, NotYet}
+use Rattle.script_text.specs.declared.kind.ScriptKind.TheVariants.{Size, Header, Word, Place, Count, Number, Hex, Range, Domain, Limit}
 
 -- a kind of fault in a message
 abbrev pub kind_text : ScriptKind → List ℕ
@@ -15,4 +15,3 @@ kind_text Hex = codes "hex"
 kind_text Range = codes "range"
 kind_text Domain = codes "domain"
 kind_text Limit = codes "limit"
-kind_text NotYet = codes "not yet"

@@ -5,7 +5,6 @@ pub mod Verbs
 pub mod Entries
 pub mod Reading
 pub mod Scripts
-pub mod FirstForms
 pub mod Examples
 pub mod Gives
 pub mod Reader

@@ -1,6 +1,6 @@
 //! Worked examples: texts, with the script or the fault of each.
 
-ghost use Rattle.script_text.specs.Examples.{BothFormats, Faults, FirstForms};
+ghost use Rattle.script_text.specs.Examples.{BothFormats, Faults};
 
 /// Each kind of line, in a script of format 1 and in one of format 2.
 pub fn both_formats()
@@ -10,9 +10,4 @@ pub fn both_formats()
 /// Each kind of fault, with its line.
 pub fn faults()
     ensures { Faults }
-{}
-
-/// Scripts that are run so far, and some that are not yet.
-pub fn first_forms()
-    ensures { FirstForms }
 {}

@@ -29,8 +29,6 @@ pub enum ScriptKind {
     Domain,
     /// The script as a whole has too much of something.
     Limit,
-    /// The script has a form that this program does not run yet.
-    NotYet,
 }
 
 impl ScriptKind {
@@ -49,7 +47,6 @@ impl ScriptKind {
             ScriptKind::Range => "range",
             ScriptKind::Domain => "domain",
             ScriptKind::Limit => "limit",
-            ScriptKind::NotYet => "not yet",
         }
     }
 }

@@ -1,8 +1,8 @@
-ghost use Rattle.std.specs.Prelude.{◌≡◌, ◌⊎◌, ◌+◌, ◌^◌, ◌<◌, length, IfOk, IsTrue};
+ghost use Rattle.std.specs.Prelude.{◌≡◌, ◌⊎◌, ◌+◌, ◌^◌, ◌<◌, length, IfOk, IfErr, IsTrue, Ok};
 ghost use Rattle.argo_model.specs.Script.{is_lawful};
 ghost use Rattle.script_text.specs.Lines.{lines_of, words_of, said_from};
 ghost use Rattle.script_text.specs.Gives.{Reads};
-ghost use Rattle.script_text.specs.Cause.{Finds, at};
+ghost use Rattle.script_text.specs.Cause.{Finds, IsCause, at};
 ghost use Rattle.script_text.specs.Scripts.{header_of, read_on, scripts_of};
 
 use crate::kind::{Cause, ReadFault, ScriptFault, ScriptKind};
@@ -68,9 +68,12 @@ fn read_on(alloc: Global, mut reader: Reader, number: u32, text: &[u8]) -> Resul
     Ok(reader)
 }
 
-/// The scripts that a text is, in the whole language.
-pub(crate) fn read_all(alloc: Global, text: &[u8]) -> Result<Scripts, ReadFault>
-    ensures { Finds result (scripts_of text.now) }
+/// The scripts that a text is.
+///
+/// A caller shows the fault, or says that memory ran out.
+pub fn read_scripts(alloc: Global, text: &[u8]) -> Result<Scripts, ReadFault>
+    ensures read { IfOk result (λ s. scripts_of text.now ≡ Ok s) }
+    ensures fault { IfErr result (λ e. IsCause e (scripts_of text.now)) }
 {
     if text.len() > MOST_BYTES {
         return Err(fault_at(0, Cause::Kind(ScriptKind::Size)));

@@ -1,11 +1,10 @@
 use super::*;
-use crate::read::read_all;
 use argo_model::{Actor, Line};
 use std::alloc::{AllocError, Global};
 use std::test::Fail;
 
 fn fault_of(alloc: Global, text: &[u8]) -> Option<(u32, ScriptKind)> {
-    match read_all(alloc, text) {
+    match read_scripts(alloc, text) {
         Err(ReadFault::Script(fault)) => Some((fault.line, fault.kind)),
         _ => None,
     }
@@ -20,7 +19,7 @@ fn repeated(alloc: Global, front: &str, line: &str, times: u32) -> Result<Vec<u8
 }
 
 #[test]
-fn a_script_of_the_first_form_is_read(rt: HostRuntime) -> Result<(), Fail> {
+fn a_script_is_read(rt: HostRuntime) -> Result<(), Fail> {
     let text = "argo 1\ndomain 7 pages 2\nvcpu 7\n store 0x10 00fFab\nload 4096 64";
     let scripts = read_scripts(rt.alloc(), text.as_bytes())?;
     assert_eq!(rt; scripts.version, 1);
@@ -44,7 +43,7 @@ fn every_line_of_both_formats_is_read(rt: HostRuntime) -> Result<(), Fail> {
     let text =
         "# first\r\nargo 2\ndomain 1 pages 2 off\ndomain\t0x7fef pages 4608\n\nvcpu 1 gen 8193\nstore 0 00\nload 1 1\n\
 op 1 2 3 4 18446744073709551615\nawait 1048576\nrecv 4607 0x1000000\ncontrol\ndestroy 1\nreset 1\ncreate 1\nvcpu 1\r";
-    let scripts = read_all(rt.alloc(), text.as_bytes())?;
+    let scripts = read_scripts(rt.alloc(), text.as_bytes())?;
     assert_eq!(rt; scripts.version, 2);
     assert_eq!(rt; scripts.domains.len(), 2);
     assert_eq!(rt; scripts.parts.len(), 3);
@@ -107,26 +106,4 @@ fn a_script_has_its_limits(rt: HostRuntime) -> Result<(), Fail> {
         Some((0, ScriptKind::Size))
     );
     Ok(())
-}
-
-#[test]
-fn other_forms_wait(rt: HostRuntime) {
-    for text in [
-        "",
-        "argo 2",
-        "argo 1\r",
-        "argo 1\ndomain 1 pages 1 off",
-        "argo 1\ncontrol",
-    ] {
-        let result = read_scripts(rt.alloc(), text.as_bytes());
-        assert!(rt;
-            matches!(
-                result,
-                Err(ReadFault::Script(ScriptFault {
-                    line: 0,
-                    kind: ScriptKind::NotYet
-                }))
-            )
-        );
-    }
 }

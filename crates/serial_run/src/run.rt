@@ -1,8 +1,7 @@
-ghost use Rattle.std.specs.Prelude.{◌≡◌, ◌≤◌, ◌+◌, vec_capacity, length, filter, IsTrue, IfOk};
+ghost use Rattle.std.specs.Prelude.{◌≡◌, ◌≤◌, vec_capacity, filter, IfOk};
 ghost use Rattle.std.specs.List.{range_with_len};
-ghost use Rattle.argo_model.specs.Built.{is_built};
 ghost use Rattle.argo_model.specs.Run.{run, is_open};
-ghost use Rattle.serial_run.specs.Picks.{IsRunByPicks, open_sections};
+ghost use Rattle.serial_run.specs.Picks.{IsRunByPicks};
 
 use crate::picks::Picks;
 use argo_base::NoMemory;
@@ -12,7 +11,6 @@ use std::alloc::Global;
 /// Runs a script by the picks of a seed: for 0 each section to its end in its turn, else one step of a section picked by a
 /// linear congruential generator.
 pub fn run_scripts(seed: u64, alloc: Global, scripts: &Scripts) -> Result<Final, NoMemory>
-    requires { IsTrue (is_built scripts.now) }
     ensures { IfOk result (λ shown. IsRunByPicks scripts.now seed shown) }
 {
     let count = scripts.parts.len();

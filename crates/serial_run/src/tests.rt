@@ -1,11 +1,12 @@
-ghost use Rattle.std.specs.Prelude.{◌≡◌, [], ◌∷◌, IsTrue, IfOk};
+ghost use Rattle.std.specs.Prelude.{◌≡◌, [], ◌∷◌, IfOk};
 ghost use Rattle.argo_model.specs.declared.scripts.Actor.TheVariants.{Vcpu};
 ghost use Rattle.argo_model.specs.declared.line.Line.TheVariants.{Load};
-ghost use Rattle.argo_model.specs.Built.{is_built};
 
 use super::*;
 use argo_base::{DomId, NoMemory};
-use argo_model::{Actor, DomainLine, DomainLines, Line, Lines, Part, Parts, Run, Scripts};
+use argo_model::{
+    Actor, DomainLine, DomainLines, Line, Lines, Machine, Part, Parts, Run, Scripts,
+};
 use std::alloc::Global;
 use std::test::Fail;
 
@@ -22,9 +23,7 @@ fn loads(alloc: Global) -> Result<Part, NoMemory>
     })
 }
 
-fn two_sections(alloc: Global) -> Result<Scripts, NoMemory>
-    ensures { IfOk result (λ s. IsTrue (is_built s)) }
-{
+fn two_sections(alloc: Global) -> Result<Scripts, NoMemory> {
     let mut domains = DomainLines::new(alloc);
     domains.push(DomainLine {
         id: DomId(1),
@@ -51,5 +50,29 @@ fn a_seed_picks_the_schedule(rt: HostRuntime) -> Result<(), Fail> {
     let picked = run_scripts(7, rt.alloc(), &scripts)?;
     let once = Run { vcpu: 0, count: 1 };
     assert_eq!(rt; picked.runs.as_slice(), [once, second, once].as_slice());
+    Ok(())
+}
+
+#[test]
+fn a_machine_is_closed_between_steps(rt: HostRuntime) -> Result<(), Fail> {
+    let scripts = two_sections(rt.alloc())?;
+    let mut machine = Machine::new(rt.alloc(), &scripts)?;
+    'steps: while !machine.finished(1) {
+        machine.step(rt.alloc(), 1)?;
+    }
+    let (domains, heard) = machine.closed(rt.alloc())?;
+    let mut pages = Vec::new(rt.alloc());
+    for domain in domains.as_slice() {
+        pages.push(domain.pages.len())?;
+    }
+    assert_eq!(rt; pages.as_slice(), [4096].as_slice());
+    assert_eq!(rt; heard.len(), 2);
+    let mut steps = Vec::new(rt.alloc());
+    for lines in heard.as_slice() {
+        for line in lines.as_slice() {
+            steps.push(line.step)?;
+        }
+    }
+    assert_eq!(rt; steps.as_slice(), [1, 2].as_slice());
     Ok(())
 }

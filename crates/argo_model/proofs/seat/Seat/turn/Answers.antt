@@ -34,7 +34,7 @@ returns-in_default-clause-ok c =
     c.requires.seat lines c.in_ok-action.ensures.action
     (ap (λ x. act x.actor c.in_ok-action.action c.args.world.now) (sym c.part.view_is) ∙ c.in_ok-outcome.ensures.ok)
     (λ os. sym (alike.rest (c.in_ok-outcome.outcome ∷ os)) ∙ c.in_default.ensures.fed os)
-    c.in_default.ensures.at_phase (omega arith)
+    c.in_default.ensures.at_phase (omega arith) c.act.ensures.sound c.act.ensures.young
 
 pub returns-clause-ok : goal.returns-clause-ok
 returns-clause-ok c =
@@ -46,3 +46,4 @@ returns-clause-ok c =
     (ap (λ x. act x.actor c.in_ok-action.action c.args.world.now) (sym c.part.view_is) ∙ c.in_ok-outcome.ensures.ok)
     (λ os. sym (alike.rest (c.in_ok-outcome.outcome ∷ os)) ∙ c.in-Some.ensures.fed os)
     c.phase_at.ensures (phase_here s c.get-line.result.now (drop (s.done + 1) s.part.lines) c.requires.seat lines)
+    c.act.ensures.sound c.act.ensures.young

@@ -1,0 +1,15 @@
+use Rattle.argo_model.specs.Purpose.{after_read, after_fault}
+use Rattle.argo_model.proofs.RangeLaws.{collect-gives}
+use Rattle.argo_model.proofs.phase.Phase.fed.Goals as goal
+
+pub fetched-requires-clause-first : goal.fetched-requires-clause-first
+fetched-requires-clause-first c =
+    let r = c.in-Reading in
+    let at = rw r.is at c.requires.at_phase in
+    collect-gives r.rest r.got.items (after_fault r.purpose) (after_read r.purpose) c.args.outcome.now at.some at.sound (rw r.is at c.requires.can)
+
+pub returns-in-Reading : goal.returns-in-Reading
+returns-in-Reading c = rw c.in-Reading.is (c.fetched.ensures c.args.line.now)
+
+pub returns-in-Asking : goal.returns-in-Asking
+returns-in-Asking c = rw c.in-Asking.is (c.asked.ensures c.args.line.now)

@@ -1,0 +1,15 @@
+use Rattle.std.proofs.Common.{ap, subst, rules}
+use Rattle.argo_model.specs.Sound.{IsSoundWorld, IsYoungWorld}
+use Rattle.argo_model.proofs.SoundPutLaws.{put_sound, put_young}
+use Rattle.argo_model.proofs.world.World.put.Goals as goal
+
+pub returns-clause-act : goal.returns-clause-act
+returns-clause-act c = search rules
+
+pub returns-clause-sound : goal.returns-clause-sound
+returns-clause-sound c =
+    subst IsSoundWorld (ap (λ t. t.state) (returns-clause-act c)) (put_sound c.args.generation c.args.self.now c.args.dom c.args.page c.args.off c.args.bytes.now c.requires.inside c.requires.sound)
+
+pub returns-clause-young : goal.returns-clause-young
+returns-clause-young c = λ n young.
+    subst (IsYoungWorld n) (ap (λ t. t.state) (returns-clause-act c)) (put_young n c.args.generation c.args.self.now c.args.dom c.args.page c.args.off c.args.bytes.now young)

@@ -1,0 +1,12 @@
+mod add_ring;
+mod caller;
+mod deliver;
+mod destroy;
+mod domains;
+mod free_pages;
+mod look;
+mod memory;
+mod query;
+mod register;
+mod sweep;
+mod unregister;
