@@ -4,9 +4,7 @@ ghost use Rattle.argo_model.specs.declared.line.Line.TheVariants.{Load};
 
 use super::*;
 use argo_base::{DomId, NoMemory};
-use argo_model::{
-    Actor, DomainLine, DomainLines, Line, Lines, Machine, Part, Parts, Run, Scripts,
-};
+use argo_model::{Actor, DomainLine, DomainLines, Line, Lines, Machine, Part, Parts, Run, Scripts};
 use std::alloc::Global;
 use std::test::Fail;
 
