@@ -4,9 +4,11 @@
 //! It stands on argo_model.
 #![tactic(auto)]
 
+mod laws;
 mod picks;
 mod run;
 
+pub use laws::picks_are_unique;
 pub use run::run_scripts;
 
 #[cfg(test)]
