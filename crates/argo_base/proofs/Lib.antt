@@ -1,4 +1,3 @@
-pub mod KeyLaws
 pub mod PieceLaws
 pub mod SlotLaws
 pub mod SpliceLaws

@@ -2,6 +2,7 @@ pub mod Errno
 pub mod Iovs
 pub mod Layout
 pub mod Match
+pub mod Messages
 pub mod Pieces
 pub mod Rounds
 pub mod Slots

@@ -20,7 +20,7 @@ impl<T> Model for Items<T> {
 /// Bytes of any number.
 pub type Bytes = Items<u8>;
 
-/// Page numbers, as a guest gives them.
+/// Page numbers, as a guest gives them: in the order of the bytes that stand on them.
 pub type PageList = Items<u64>;
 
 impl<T> Items<T> {

@@ -10,6 +10,8 @@ mod message;
 mod no_memory;
 mod piece;
 mod ring_key;
+#[cfg(test)]
+mod tests;
 
 pub use dom_id::DomId;
 pub use errno::Errno;

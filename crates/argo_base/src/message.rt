@@ -9,4 +9,5 @@ pub struct Message {
     pub body: Bytes,
 }
 
+/// Messages, the oldest first.
 pub type MessageList = Items<Message>;

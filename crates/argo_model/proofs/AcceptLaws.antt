@@ -14,8 +14,7 @@ use Rattle.argo_base.proofs.SpliceLaws.{part-splice, take-splice_before, drop-sp
 use Rattle.argo_model.specs.declared.state.Ring.{Ring}
 use Rattle.argo_model.specs.Message.{spell, room_of}
 use Rattle.argo_model.specs.Holds.{Holds}
-use Rattle.argo_model.specs.RingBytes.{page_start, rx_word, write_ring, write_slots, write_tx}
-use Rattle.argo_model.specs.Final.{ring_bytes, slots_of}
+use Rattle.argo_model.specs.RingBytes.{ring_bytes, slots_of, page_start, rx_word, write_ring, write_slots, write_tx}
 use Rattle.argo_model.specs.Deliver.{ring_with, memory_with}
 use Rattle.argo_model.proofs.HoldLaws.{holds_accepted, holds-span, spell_in_room}
 use Rattle.argo_model.proofs.PageLaws.{StandsOn, IsInside, page_bytes, stands_on_after, inside_at, length-ring_bytes, ring_bytes-write_ring, length-write_ring, written_piece}

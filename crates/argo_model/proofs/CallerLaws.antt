@@ -6,7 +6,7 @@ use Rattle.argo_model.specs.declared.state.Domain.{Domain}
 use Rattle.argo_model.specs.declared.state.Live.{Live}
 use Rattle.argo_model.specs.State.{State, domain_of, life_in}
 use Rattle.argo_model.specs.Act.{act, act_of, act_if_there, act_if_live}
-use Rattle.argo_model.specs.Caller.{caller_of, if_lives}
+use Rattle.argo_model.specs.Caller.{living_caller, if_lives}
 
 -- what is known where a domain performs an action: it is there, it is alive, and the action is its own
 pub record Calls (s : State) (d generation : ℕ) (x : Domain) : Type 0 where
@@ -33,5 +33,5 @@ found_as s d generation x (Some y) is calls =
     }
 found_as s d generation x None is calls = cc
 
-pub calls : (s : State) (d generation : ℕ) (x : Domain) → caller_of s d generation ≡ Some x → Calls s d generation x
+pub calls : (s : State) (d generation : ℕ) (x : Domain) → living_caller s d generation ≡ Some x → Calls s d generation x
 calls s d generation x h = found_as s d generation x (domain_of s d) refl h

@@ -23,7 +23,7 @@ use Rattle.argo_model.specs.declared.state.Live.{Live}
 use Rattle.argo_model.specs.declared.state.Ring.{Ring}
 use Rattle.argo_model.specs.State.{State, domain_of, set_domain, set_live, is_alive}
 use Rattle.argo_model.specs.Act.{act}
-use Rattle.argo_model.specs.Caller.{caller_of}
+use Rattle.argo_model.specs.Caller.{living_caller}
 use Rattle.argo_model.specs.Told.{Told, told, refused, unless}
 use Rattle.argo_model.specs.Message.{room_of}
 use Rattle.argo_model.specs.Notices.{is_busy, noted}
@@ -31,14 +31,14 @@ use Rattle.argo_model.specs.RingBytes.{rx_word}
 use Rattle.argo_model.specs.Met.{Met, met, met_of, met_in, free_in, set_ring}
 use Rattle.argo_model.specs.Meets.{key_met}
 use Rattle.argo_model.specs.Deliver.{ring_with, memory_with, accepted, waits, if_it_fits, offer, offer_to}
-use Rattle.argo_model.specs.Offers.{Stands, RingRefuses, RingOffers, LiveOffers, OffersAlone}
+use Rattle.argo_model.specs.Offers.{StandsIn, RingRefuses, RingOffers, LiveOffers, OffersAlone}
 use Rattle.argo_model.specs.Sound.{are_there, is_sound_ring, is_sound_live}
 use Rattle.argo_model.proofs.CallerLaws.{calls}
 use Rattle.argo_model.proofs.EntryLaws.{all_pass, all_pass-set_value}
 use Rattle.argo_model.proofs.MetLaws.{met_found, met_nothing}
-use Rattle.argo_model.proofs.RingLaws.{both, and_also}
+use Rattle.argo_model.proofs.TestLaws.{both, and_also}
 use Rattle.argo_model.proofs.SoundRingLaws.{ring_facts}
-use Rattle.argo_model.proofs.WorldLaws.{set_domain-same}
+use Rattle.argo_model.proofs.WorldLaws.{set_domain-same, set_live-same}
 
 -- ---- rings
 
@@ -69,7 +69,7 @@ next_place count r m tx sound most is =
 -- ---- what a ring that stands in a state leaves of it
 
 -- a ring written back as it was, in a memory and with a flag that are as they were, changes nothing
-pub stands_still : (s : State) (at : Met) (memory : List ℕ) (flag : Bool) (ring : Ring) → Stands s at → at.live.bytes ≡ memory → at.live.flag ≡ flag → at.ring ≡ ring
+pub stands_still : (s : State) (at : Met) (memory : List ℕ) (flag : Bool) (ring : Ring) → StandsIn s at → at.live.bytes ≡ memory → at.live.flag ≡ flag → at.ring ≡ ring
     → set_live s at.owner at.domain (record at.live { bytes = memory; flag = flag; rings = set_value (is_at (key_cmp at.key)) at.live.rings ring }) ≡ s
 stands_still s at memory flag ring stands bytes same_flag same_ring =
     let rings : set_value (is_at (key_cmp at.key)) at.live.rings ring ≡ at.live.rings =
@@ -80,7 +80,7 @@ stands_still s at memory flag ring stands bytes same_flag same_ring =
     ∙ ap (λ l. set_domain s at.owner (record at.domain { life = l })) (sym stands.lives)
     ∙ set_domain-same s at.owner at.domain stands.there
 
-pub set_ring-same : (s : State) (at : Met) (ring : Ring) → Stands s at → at.ring ≡ ring → set_ring s at ring ≡ s
+pub set_ring-same : (s : State) (at : Met) (ring : Ring) → StandsIn s at → at.ring ≡ ring → set_ring s at ring ≡ s
 set_ring-same s at ring stands same = stands_still s at at.live.bytes at.live.flag ring stands refl refl same
 
 -- ---- refusals
@@ -144,7 +144,7 @@ offers_unfit p memory flag old new size e fitting is refuses s at stands bytes s
 -- one that fits
 offers_fit : (p : Parcel) (memory : List ℕ) (old new : Ring) (size : ℕ) (fitting : State → Met → Told)
     → ((s : State) (at : Met) → offer s p.sender p.port p.kind at p.load ≡ if_it_fits s p.sender at size (fitting s at))
-    → RingRefuses memory old p.sender size None new → (s : State) (at : Met) → Stands s at → at.live.bytes ≡ memory → at.ring ≡ old
+    → RingRefuses memory old p.sender size None new → (s : State) (at : Met) → StandsIn s at → at.live.bytes ≡ memory → at.ring ≡ old
     → offer s p.sender p.port p.kind at p.load ≡ fitting s at
 offers_fit p memory old new size fitting is refuses s at stands bytes same = is s at ∙ refuses.tells s at (fitting s at) stands bytes same
 
@@ -202,10 +202,6 @@ offers_accepted p memory flag old between body size refusal new_memory new load 
 
 -- ---- what a domain has alive
 
--- the state of a domain that lives on as it did
-lives_on : (s : State) (d : ℕ) (x : Domain) (live : Live) → domain_of s d ≡ Some x → x.life ≡ Some live → set_live s d x live ≡ s
-lives_on s d x live there lives = ap (λ l. set_domain s d (record x { life = l })) (sym lives) ∙ set_domain-same s d x there
-
 -- what it has, seen as it was before one of its rings, its memory and its flag were written
 pub live_changed : (before live : Live) (key : RingKey) (bytes : List ℕ) (flag : Bool) (ring : Ring) (after : List (RingKey × Ring))
     → before ≡ live → after ≡ set_value (is_at (key_cmp key)) before.rings ring
@@ -238,7 +234,7 @@ meets_with to x live o = option_map (λ (e : RingKey × Ring). record { owner = 
 pub offers_nothing : (to_port : ℕ) (p : Parcel) (live : Live) → key_met live.rings to_port p.sender ≡ None → LiveOffers to_port p live (IsRefused ConnRefused) live
 offers_nothing to_port p live none s to x there lives =
     ap (λ o. offer_to s p.sender p.port p.kind p.load (meets_with to x live o)) (met_nothing live.rings to_port p.sender none)
-    ∙ ap (told (IsRefused ConnRefused)) (sym (lives_on s to x live there lives))
+    ∙ ap (told (IsRefused ConnRefused)) (sym (set_live-same s to x live there lives))
 
 -- a ring for it
 pub offers_at : (to_port : ℕ) (p : Parcel) (live : Live) (key : RingKey) (ring new : Ring) (o : Outcome) (bytes : List ℕ) (flag : Bool)
@@ -274,7 +270,7 @@ offers_alive to_port p x live new o on lives offers s to there =
 
 -- ---- the caller
 
-module _ (s : State) (d generation port to to_port kind : ℕ) (load : Load) (x : Domain) (lives : caller_of s d generation ≡ Some x) (alive : is_alive s to ≡ true) (on : x.on ≡ true) where
+module _ (s : State) (d generation port to to_port kind : ℕ) (load : Load) (x : Domain) (lives : living_caller s d generation ≡ Some x) (alive : is_alive s to ≡ true) (on : x.on ≡ true) where
   -- who is on sends to a domain that is alive
   sends : act (Vcpu d generation) (Deliver port to to_port kind load) s ≡ offer_to s d port kind load (met s to to_port d)
   sends =

@@ -14,7 +14,7 @@ use Rattle.argo_model.specs.Sound.{is_sound_ring, is_sound_life, is_sound_domain
 use Rattle.argo_model.specs.Destroy.{destroy, reset, create, forget, live_without, domain_without, change_domain, change_there, gone_domain, reset_live, reset_domain, next_domain}
 use Rattle.argo_model.specs.Alone.{CreatesAlone}
 use Rattle.argo_model.proofs.WorldLaws.{set_domain-same}
-use Rattle.argo_model.proofs.RingLaws.{both, and_also}
+use Rattle.argo_model.proofs.TestLaws.{both, and_also}
 use Rattle.argo_model.proofs.EntryLaws.{all_pass-map, all_pass-filter}
 use Rattle.argo_model.proofs.SoundLaws.{AllDomains, found_passes, set_passes, unless_passes, young_world_more}
 

@@ -6,7 +6,7 @@ use Rattle.std.specs.declared.cmp.Ordering.TheVariants.{Less, Equal, Greater}
 use Rattle.std.specs.Ordering.{match_ordering}
 use Rattle.std.specs.Map.{lookup, set_value, remove_entry}
 use Rattle.std.specs.BTreeMap.{insert_entry}
-use Rattle.argo_model.proofs.RingLaws.{both, and_also}
+use Rattle.argo_model.proofs.TestLaws.{both, and_also}
 
 -- every value passes a test
 abbrev pub all_pass : {K X : Type 0} → (X → Bool) → List (K × X) → Bool

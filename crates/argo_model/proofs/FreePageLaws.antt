@@ -14,7 +14,7 @@ use Rattle.argo_model.specs.State.{has_page}
 use Rattle.argo_model.specs.Register.{has_number, all_differ, is_free_for, are_free_for}
 use Rattle.argo_model.specs.Sound.{are_there, is_sound_ring, is_sound_live}
 use Rattle.argo_model.specs.FreePages.{is_taken, with_pages, with_others, are_free_in, are_inside}
-use Rattle.argo_model.proofs.RingLaws.{both}
+use Rattle.argo_model.proofs.TestLaws.{both}
 use Rattle.argo_model.proofs.EntryLaws.{all_pass-weaker}
 
 -- sound rings stand inside their owner's memory

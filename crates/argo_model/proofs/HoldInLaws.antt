@@ -18,13 +18,13 @@ use Rattle.argo_base.proofs.SpliceLaws.{splice-nil, take-splice, take-splice_bef
 use Rattle.argo_model.specs.declared.state.Ring.{Ring}
 use Rattle.argo_model.specs.Message.{room_of}
 use Rattle.argo_model.specs.Holds.{Holds}
-use Rattle.argo_model.specs.RingBytes.{page_start, rx_word}
+use Rattle.argo_model.specs.RingBytes.{ring_bytes, slots_of, page_start, rx_word}
 use Rattle.argo_model.specs.Puts.{touches, place_after_first, taken_by, moves, dirtied, clean_after, after_put_at, after_put}
-use Rattle.argo_model.specs.Final.{ring_bytes, slots_of}
 use Rattle.argo_model.proofs.HoldLaws.{rooms_of, holds_taken}
 use Rattle.argo_model.proofs.MoveLaws.{taken_by_says}
 use Rattle.argo_model.proofs.PageLaws.{StandsOn, IsInside, stands_on_after, inside_at, length-ring_bytes, written_piece, other_pages}
 use Rattle.argo_model.proofs.AcceptLaws.{first_four, rx_word-ring_bytes, word_stays}
+use Rattle.argo_model.proofs.TestLaws.{both, says_same}
 
 -- a ring that stands on pages of the memory, with its rx word at a place and its own place below the length, and that holds its
 -- untaken messages
@@ -36,14 +36,11 @@ pub record HoldsIn (memory : List ℕ) (r : Ring) : Type 0 where
   pub below : r.tx < r.len
   pub held : Holds (slots_of memory r) r.len (rx_word memory r.pages) r.tx r.untaken
 
-test_says : (a b : ℕ) → (a == b) ≡ true → a ≡ b
-test_says a b test = grind (arith, nat_tests)
-
 -- the place of a page that is found is one of the list, and the page is there
 found_at : (pages : List ℕ) (page i : ℕ) → position (λ p. p == page) pages ≡ Some i → (i < length pages) × (slice_index pages i ≡ page)
 found_at pages page i found =
     let f = position-Some (λ p. p == page) pages i 0 found in
-    (f.0, test_says (slice_index pages i) page f.1)
+    (f.0, says_same (slice_index pages i) page f.1)
 
 -- a page that is not found is none of the list
 not_among : (pages : List ℕ) (page : ℕ) → All (λ p. (p == page) ≡ false) pages → IsTrue (not (has_number pages page))
@@ -160,10 +157,6 @@ chosen : (test : Bool) (x : Option ℕ) (k : ℕ) → (if test then x else None)
 chosen true x k is = (refl, is)
 chosen false x k is = cc
 
-both_true : (x y : Bool) → (x && y) ≡ true → (x ≡ true) × (y ≡ true)
-both_true true y is = (refl, is)
-both_true false y is = absurd (false≢true is)
-
 -- a proper move takes the first messages
 moved : (memory bytes : List ℕ) (r : Ring) (i off k : ℕ) → HoldsIn memory r → i < length r.pages → off + length bytes ≤ 4096
     → moves memory r (4096 * i + off) bytes ≡ Some k
@@ -172,9 +165,9 @@ moved memory bytes r i off k h here fit takes =
     let at = 4096 * i + off in
     let rx = rx_word memory r.pages in
     let c = chosen ((at == 0) && (length bytes == 4)) (taken_by r.len rx r.untaken (u32_at bytes 0)) k takes in
-    let tests = both_true (at == 0) (length bytes == 4) c.0 in
-    let zero_at : at ≡ 0 = test_says at 0 tests.0 in
-    let four : length bytes ≡ 4 = test_says (length bytes) 4 tests.1 in
+    let tests = both (at == 0) (length bytes == 4) c.0 in
+    let zero_at : at ≡ 0 = says_same at 0 tests.0 in
+    let four : length bytes ≡ 4 = says_same (length bytes) 4 tests.1 in
     let says = taken_by_says r.len rx r.untaken (u32_at bytes 0) k c.1 in
     let room = h.fit in
     let b = h.below in

@@ -45,7 +45,9 @@ pub mod SoundRingLaws
 pub mod SpellingLaws
 pub mod StepLaws
 pub mod SweepLaws
+pub mod TestLaws
 pub mod UnregisterLaws
+pub mod WorkedDeeds
 pub mod WorkedEnds
 pub mod WorkedIovs
 pub mod WorkedMemory

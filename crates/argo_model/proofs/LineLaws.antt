@@ -1,5 +1,5 @@
 -- Laws of the lines of sections.
-use Rattle.std.proofs.Common.{◌≡◌, ℕ, zero, suc, Bool, true, false, List, [], ◌∷◌, IsTrue, ◌&&◌, Some, slice_get, refl, subst, ◌≤◌, nat_le, length, sum_by, arith}
+use Rattle.std.proofs.Common.{◌≡◌, ℕ, zero, suc, Bool, List, [], ◌∷◌, IsTrue, Some, slice_get, subst, ◌≤◌, nat_le, length, sum_by, arith}
 use Rattle.std.proofs.lemmas.Bool.Decides.{nat_tests}
 use Rattle.std.proofs.lemmas.Bool.{false≢true}
 use Rattle.std.specs.List.{list_all}
@@ -9,11 +9,7 @@ use Rattle.argo_model.specs.declared.scripts.Actor.{Actor}
 use Rattle.argo_model.specs.declared.scripts.Actor.TheVariants.{Vcpu, Control}
 use Rattle.argo_model.specs.Script.{is_short, is_vcpu_line, is_control_line, is_lawful_for, is_generation, is_lawful, turns_of, Script}
 use Rattle.argo_model.specs.Phase.{is_line_for}
-
-both : (x y : Bool) → IsTrue (x && y) → IsTrue x × IsTrue y
-both true true h = (refl, refl)
-both true false h = absurd (false≢true h)
-both false y h = absurd (false≢true h)
+use Rattle.argo_model.proofs.TestLaws.{both}
 
 -- what holds of each value of a list holds of the one at a place
 pub list_all-at : {A : Type 0} (p : A → Bool) (xs : List A) (i : ℕ) (x : A) → slice_get xs i ≡ Some x → IsTrue (list_all p xs) → IsTrue (p x)

@@ -1,7 +1,6 @@
 -- Laws of what a machine keeps of a run.
 use Rattle.std.proofs.Common.{◌≡◌, ◌≢◌, ◌↔◌, ◌⊎◌, inl, inr, get_or, ℕ, zero, suc, ◌+◌, ◌^◌, ◌<◌, ◌≤◌, Bool, true, false, cond, eqb, List, [], ◌∷◌, ◌++◌, length, set, replicate, IsTrue, map, sum_by, count_by, Option, Some, None, slice_get, refl, sym, ap, ◌∙◌, subst, arith, add-zero, if◌then◌else◌, ⊎_elim}
 use Rattle.std.proofs.lemmas.Bool.{cases_lt}
-use Rattle.std.proofs.lemmas.Bool.Decides.{nat_tests}
 use Rattle.std.proofs.lemmas.Bool.{false≢true}
 use Rattle.std.proofs.lemmas.List.{length-append, length-set, length-drop, length-map, length-replicate, drop_all}
 use Rattle.std.proofs.lemmas.List.Sums.{sum_by-cons, sum_by_push}
@@ -28,6 +27,7 @@ use Rattle.argo_model.specs.Kept.{IsOpenAt}
 use Rattle.argo_model.specs.Replies.{reply_steps}
 use Rattle.argo_model.proofs.BookLaws.{schedule_of-grown, runs_of-push, set-map-range}
 use Rattle.argo_model.proofs.ReplyLaws.{keeps_step}
+use Rattle.argo_model.proofs.TestLaws.{same_number, other_number}
 
 -- the section of a seat stands at the seat's place
 pub stands_at : (ss : List Seat) (ps : List Progress) (v : ℕ) (s : Seat) → AllStand ss ps → slice_get ss v ≡ Some s
@@ -112,15 +112,9 @@ same_totals a b c a2 b2 c2 e f g = cc
 count_push : (p : Step → Bool) (steps : List Step) (x : Step) → count_by p (steps ++ x ∷ []) ≡ count_by p steps + cond (p x) 1 0
 count_push p steps x = sum_by_push (λ y. cond (p y) 1 0) steps x
 
-is_same : (a b : ℕ) → a ≡ b → eqb a b ≡ true
-is_same a b e = grind (arith, nat_tests)
-
-is_other : (a b : ℕ) → a ≢ b → eqb a b ≡ false
-is_other a b e = grind (arith, nat_tests)
-
 totals-push-same : (steps : List Step) (x : Step) (k : ℕ) → x.vcpu ≡ k → totals_of (steps ++ x ∷ []) k ≡ totals_after (totals_of steps k) x.outcome
 totals-push-same steps x k e =
-    let b = is_same x.vcpu k e in
+    let b = same_number x.vcpu k e in
     let n1 = count_push (λ t. eqb t.vcpu k) steps x ∙ ap (λ z. count_by (λ t. eqb t.vcpu k) steps + cond z 1 0) b in
     let n2 = count_push (λ t. if eqb t.vcpu k then is_accepted (accepted_size t.outcome) else false) steps x
     ∙ ap (λ z. count_by (λ t. if eqb t.vcpu k then is_accepted (accepted_size t.outcome) else false) steps + cond (if z then is_accepted (accepted_size x.outcome) else false) 1 0) b in
@@ -130,7 +124,7 @@ totals-push-same steps x k e =
 
 totals-push-other : (steps : List Step) (x : Step) (k : ℕ) → x.vcpu ≢ k → totals_of (steps ++ x ∷ []) k ≡ totals_of steps k
 totals-push-other steps x k e =
-    let b = is_other x.vcpu k e in
+    let b = other_number x.vcpu k e in
     let n1 = count_push (λ t. eqb t.vcpu k) steps x ∙ ap (λ z. count_by (λ t. eqb t.vcpu k) steps + cond z 1 0) b ∙ add-zero _ in
     let n2 = count_push (λ t. if eqb t.vcpu k then is_accepted (accepted_size t.outcome) else false) steps x
     ∙ ap (λ z. count_by (λ t. if eqb t.vcpu k then is_accepted (accepted_size t.outcome) else false) steps + cond (if z then is_accepted (accepted_size x.outcome) else false) 1 0) b ∙ add-zero _ in
@@ -338,16 +332,13 @@ open_seat (x ∷ ss) (p ∷ ps) (suc v) all some =
     let h = open_seat ss ps v all.2 some in
     record { seat = h.seat; here = h.here; sound = h.sound; more = h.more }
 
-no_seat : (ss : List Seat) (ps : List Progress) (v : ℕ) → AllStand ss ps → length ss ≤ v → is_unfinished (slice_get ps v) ≡ false
-no_seat [] [] v all none = refl
-no_seat [] (p ∷ ps) v all none = absurd all
-no_seat (x ∷ ss) [] v all none = absurd all
-no_seat (x ∷ ss) (p ∷ ps) zero all none = absurd (omega arith)
-no_seat (x ∷ ss) (p ∷ ps) (suc v) all none = no_seat ss ps v all.2 (omega arith)
-
 -- a number that is no section's
 pub none_open : (ss : List Seat) (ps : List Progress) (v : ℕ) → AllStand ss ps → length ss ≤ v → is_unfinished (slice_get ps v) ≡ false
-none_open ss ps v all none = no_seat ss ps v all none
+none_open [] [] v all none = refl
+none_open [] (p ∷ ps) v all none = absurd all
+none_open (x ∷ ss) [] v all none = absurd all
+none_open (x ∷ ss) (p ∷ ps) zero all none = absurd (omega arith)
+none_open (x ∷ ss) (p ∷ ps) (suc v) all none = none_open ss ps v all.2 (omega arith)
 
 zero_totals : (from n : ℕ) → replicate n (record { steps = 0; accepted = 0; bytes = 0 }) ≡ map (totals_of []) (range_with_len from n)
 zero_totals from zero = refl

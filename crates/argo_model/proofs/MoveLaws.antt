@@ -3,12 +3,12 @@ use Rattle.std.proofs.Common.{◌≡◌, ℕ, zero, suc, ◌+◌, ◌<◌, ◌�
 use Rattle.std.specs.List.{range_with_len, find}
 use Rattle.std.proofs.lemmas.List.Sums.{sum_by-cons, sum_by-take-le}
 use Rattle.std.proofs.lemmas.Bool.{cases_eq}
-use Rattle.std.proofs.lemmas.Bool.Decides.{nat_tests}
 use Rattle.argo_base.specs.declared.message.Message.{Message}
 use Rattle.argo_base.proofs.SlotLaws.{place_after_differs}
 use Rattle.argo_model.specs.Message.{room_of}
 use Rattle.argo_model.specs.Puts.{place_after_first, taken_by}
 use Rattle.argo_model.proofs.HoldLaws.{rooms_of}
+use Rattle.argo_model.proofs.TestLaws.{same_number, other_number, says_same}
 
 rooms_less : (ms : List Message) (j k : ℕ) → j < k → k ≤ length ms → rooms_of (take j ms) < rooms_of (take k ms)
 rooms_less [] j k less inside = absurd (omega arith)
@@ -28,15 +28,6 @@ places_differ len rx ms j k below room less inside same =
     let t = sum_by-take-le room_of ms k in
     let e = place_after_differs len rx (rooms_of (take j ms)) (rooms_of (take k ms)) below (omega arith) (omega arith) same in
     omega arith
-
-test_true : (a b : ℕ) → a ≡ b → (a == b) ≡ true
-test_true a b same = grind (arith, nat_tests)
-
-test_false : (a b : ℕ) → (a ≡ b → ⊥) → (a == b) ≡ false
-test_false a b differ = grind (arith, nat_tests)
-
-test_says : (a b : ℕ) → (a == b) ≡ true → a ≡ b
-test_says a b test = grind (arith, nat_tests)
 
 -- the first number of a range that passes a test
 find_first : (test : ℕ → Bool) (from n k : ℕ) → from ≤ k → k < from + n → test k ≡ true → ((j : ℕ) → j < k → test j ≡ false)
@@ -65,12 +56,12 @@ pub taken_by-place : (len rx : ℕ) (ms : List Message) (k : ℕ) → rx < len �
     → taken_by len rx ms (place_after_first len rx ms k) ≡ Some k
 taken_by-place len rx ms k below room inside =
     find_first (λ j. place_after_first len rx ms j == place_after_first len rx ms k) 0 (length ms + 1) k (omega arith) (omega arith)
-    (test_true (place_after_first len rx ms k) (place_after_first len rx ms k) refl)
-    (λ j less. test_false (place_after_first len rx ms j) (place_after_first len rx ms k) (places_differ len rx ms j k below room less inside))
+    (same_number (place_after_first len rx ms k) (place_after_first len rx ms k) refl)
+    (λ j less. other_number (place_after_first len rx ms j) (place_after_first len rx ms k) (places_differ len rx ms j k below room less inside))
 
 -- and a value that takes k is the place after the first k
 pub taken_by_says : (len rx : ℕ) (ms : List Message) (value k : ℕ) → taken_by len rx ms value ≡ Some k
     → (k ≤ length ms) × (place_after_first len rx ms k ≡ value)
 taken_by_says len rx ms value k takes =
     let f = find_in (λ j. place_after_first len rx ms j == value) 0 (length ms + 1) k takes in
-    (omega (arith, f.1), test_says (place_after_first len rx ms k) value f.0)
+    (omega (arith, f.1), says_same (place_after_first len rx ms k) value f.0)

@@ -1,6 +1,6 @@
 -- Laws of the bytes of a ring in its owner's memory: what is written into them, and what of them stays.
 use Rattle.std.proofs.Common.{◌≡◌, ℕ, zero, suc, ◌+◌, ◌-◌, ◌*◌, ◌/◌, ◌%◌, ◌<◌, ◌≤◌, min, Bool, true, false, ◌||◌, ◌==◌, List, [], ◌∷◌, ◌++◌, length, take, drop, slice_index, get_or, All, ◌⊎◌, inl, inr, ⊎_elim, refl, sym, ap, ◌∙◌, subst, arith, length-append, length-take, length-drop}
-use Rattle.std.specs.Prelude.{IsTrue, not, ◌&&◌}
+use Rattle.std.specs.Prelude.{IsTrue, not}
 use Rattle.std.proofs.lemmas.List.{length-take-le, drop_all, take_all, take-append-drop}
 use Rattle.std.proofs.lemmas.List.Elements.{All-head, All-tail}
 use Rattle.std.proofs.lemmas.Bool.{cases_lt, cases_order, false≢true}
@@ -10,9 +10,9 @@ use Rattle.argo_base.specs.Splice.{splice}
 use Rattle.argo_base.specs.Pieces.{pieces}
 use Rattle.argo_base.proofs.PieceLaws.{pieces-first}
 use Rattle.argo_base.proofs.SpliceLaws.{splice-nil, splice-append_left, splice-append_right, length-splice, take-splice_before, drop-splice_after, part-splice, splice-splice}
-use Rattle.argo_model.specs.RingBytes.{page_start, write_pieces, write_ring, write_tx}
+use Rattle.argo_model.specs.RingBytes.{ring_bytes, page_start, write_pieces, write_ring, write_tx}
 use Rattle.argo_model.specs.Register.{has_number, all_differ}
-use Rattle.argo_model.specs.Final.{ring_bytes}
+use Rattle.argo_model.proofs.TestLaws.{both}
 
 -- a page is in the memory
 abbrev pub IsInside : List ℕ → ℕ → Type 0
@@ -53,10 +53,6 @@ other_page memory zs p q off inside fit differ =
 neither : (x y : Bool) → IsTrue (not (x || y)) → IsTrue (not x) × IsTrue (not y)
 neither false y h = (refl, h)
 neither true y h = absurd (false≢true h)
-
-both : (x y : Bool) → IsTrue (x && y) → IsTrue x × IsTrue y
-both true y h = (refl, h)
-both false y h = absurd (false≢true h)
 
 not_same : (p q : ℕ) → IsTrue (not (p == q)) → p ≡ q → ⊥
 not_same p q test same = grind (arith, nat_tests)

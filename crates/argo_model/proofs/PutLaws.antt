@@ -1,9 +1,9 @@
 -- Laws of puts into the pages of rings.
 use Rattle.std.proofs.Common.{◌≡◌, ℕ, zero, suc, ◌+◌, ◌<◌, ◌≤◌, Bool, true, false, cond, eqb, List, length, Some, None, refl, ap, ◌∙◌, arith, find}
-use Rattle.std.proofs.lemmas.Bool.Decides.{nat_tests}
 use Rattle.std.specs.List.{range_with_len}
 use Rattle.argo_base.specs.declared.message.Message.{Message}
 use Rattle.argo_model.specs.Puts.{place_after_first, taken_by}
+use Rattle.argo_model.proofs.TestLaws.{same_number, other_number}
 
 find_first : (p : ℕ → Bool) (from n i : ℕ) → i < n → ((j : ℕ) → j < i → p (from + j) ≡ false) → p (from + i) ≡ true → find p (range_with_len from n) ≡ Some (from + i)
 find_first p from zero i below before here = absurd (omega arith)
@@ -23,20 +23,14 @@ find_none p from (suc n) before =
     ap (λ b. cond b (Some from) (find p (range_with_len (from + 1) n))) e
     ∙ find_none p (from + 1) n (λ j low. ap p (omega arith) ∙ before (suc j) (omega arith))
 
-test_no : (a b : ℕ) → (a ≡ b → ⊥) → eqb a b ≡ false
-test_no a b differ = grind (arith, nat_tests)
-
-test_yes : (a b : ℕ) → a ≡ b → eqb a b ≡ true
-test_yes a b same = grind (arith, nat_tests)
-
 -- the first count of messages whose place is the value is how many are taken
 pub taken_by_first : (len rx : ℕ) (untaken : List Message) (value k : ℕ) → k ≤ length untaken
     → ((j : ℕ) → j < k → place_after_first len rx untaken j ≡ value → ⊥) → place_after_first len rx untaken k ≡ value
     → taken_by len rx untaken value ≡ Some k
 taken_by_first len rx untaken value k few before here =
     find_first (λ k. eqb (place_after_first len rx untaken k) value) 0 (length untaken + 1) k (omega arith)
-    (λ j low. test_no _ _ (λ e. before j low (ap (place_after_first len rx untaken) (omega arith) ∙ e)))
-    (test_yes _ _ (ap (place_after_first len rx untaken) (omega arith) ∙ here))
+    (λ j low. other_number _ _ (λ e. before j low (ap (place_after_first len rx untaken) (omega arith) ∙ e)))
+    (same_number _ _ (ap (place_after_first len rx untaken) (omega arith) ∙ here))
     ∙ ap Some (omega arith)
 
 -- where there is none, none are
@@ -44,4 +38,4 @@ pub taken_by_none : (len rx : ℕ) (untaken : List Message) (value : ℕ)
     → ((j : ℕ) → j < length untaken + 1 → place_after_first len rx untaken j ≡ value → ⊥) → taken_by len rx untaken value ≡ None
 taken_by_none len rx untaken value before =
     find_none (λ k. eqb (place_after_first len rx untaken k) value) 0 (length untaken + 1)
-    (λ j low. test_no _ _ (λ e. before j low (ap (place_after_first len rx untaken) (omega arith) ∙ e)))
+    (λ j low. other_number _ _ (λ e. before j low (ap (place_after_first len rx untaken) (omega arith) ∙ e)))

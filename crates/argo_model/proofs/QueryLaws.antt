@@ -15,7 +15,7 @@ use Rattle.argo_model.specs.declared.state.Ring.{Ring}
 use Rattle.argo_model.specs.State.{State, domain_of, set_domain, set_live}
 use Rattle.argo_model.specs.Told.{Told, told, refused, unless}
 use Rattle.argo_model.specs.Act.{act}
-use Rattle.argo_model.specs.Caller.{caller_of}
+use Rattle.argo_model.specs.Caller.{living_caller}
 use Rattle.argo_model.specs.Met.{met_in, met_of, met}
 use Rattle.argo_model.specs.Query.{query_at, answer_at}
 use Rattle.argo_model.specs.Meets.{key_met, AnswersAlone, AnswersLive, RingAnswers}
@@ -64,7 +64,7 @@ answers_gone port sender need x on gone s to there =
     ∙ ap (told (Answered none_met)) (sym (set_domain-same s to x there))
 
 -- a caller that is on has the answer of the domain that it asks
-pub query_answered : (s : State) (d generation to to_port need : ℕ) (x y new : Domain) (a : Answer) → caller_of s d generation ≡ Some x → x.on ≡ true
+pub query_answered : (s : State) (d generation to to_port need : ℕ) (x y new : Domain) (a : Answer) → living_caller s d generation ≡ Some x → x.on ≡ true
     → domain_of s to ≡ Some y → AnswersAlone to_port d need y a new
     → act (Vcpu d generation) (Query to to_port need) s ≡ record { outcome = Answered a; state = set_domain s to new }
 query_answered s d generation to to_port need x y new a caller on there answers =

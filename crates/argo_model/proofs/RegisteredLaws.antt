@@ -25,7 +25,8 @@ use Rattle.argo_model.specs.Register.{all_differ, is_free_for, are_free_for, own
 use Rattle.argo_model.specs.Sound.{are_there, is_sound_ring, is_sound_live, is_sound_domain, IsSoundWorld, is_young_domain, IsYoungWorld}
 use Rattle.argo_model.specs.AddsRing.{live_with_fresh, live_with_anew, live_with_ring, ended_with_ring}
 use Rattle.argo_model.specs.Registers.{partner_in, refusal_of}
-use Rattle.argo_model.proofs.RingLaws.{both, and_also, there_at, length-splice}
+use Rattle.argo_model.proofs.RingLaws.{there_at, length-splice}
+use Rattle.argo_model.proofs.TestLaws.{both, and_also}
 use Rattle.argo_model.proofs.EntryLaws.{all_pass, all_pass-set_value, all_pass-insert_entry}
 use Rattle.argo_model.proofs.SoundLaws.{AllDomains, IsFlagless, sound_flagless, young_flagless, signal_each_passes, vcpu_passes, set_live_sound, set_live_young, sound_rings, young_generation, young_serial, young_world_more}
 use Rattle.argo_model.proofs.RegistrationLaws.{told_by, register-is, allowed_is}

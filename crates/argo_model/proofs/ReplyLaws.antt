@@ -1,7 +1,6 @@
 -- Laws of the replies and the numbers of their steps.
-use Rattle.std.proofs.Common.{◌≡◌, ◌≢◌, ℕ, ◌+◌, ◌<◌, true, false, cond, eqb, List, [], ◌∷◌, ◌++◌, length, take, get_or, map, count_by, Option, Some, None, refl, sym, ap, ◌∙◌, append_assoc, arith, add-zero, ⊎_elim}
+use Rattle.std.proofs.Common.{◌≡◌, ◌≢◌, ℕ, ◌+◌, ◌<◌, cond, eqb, List, [], ◌∷◌, ◌++◌, length, take, get_or, map, count_by, Option, Some, None, refl, sym, ap, ◌∙◌, append_assoc, arith, add-zero, ⊎_elim}
 use Rattle.std.proofs.lemmas.Bool.{cases_eq}
-use Rattle.std.proofs.lemmas.Bool.Decides.{nat_tests}
 use Rattle.std.proofs.lemmas.List.{append-nil, length-append, length-take-le, take_more}
 use Rattle.std.proofs.lemmas.List.Elements.{filter-append}
 use Rattle.std.proofs.lemmas.List.Sums.{length-filter}
@@ -14,12 +13,7 @@ use Rattle.argo_model.specs.Final.{done_lines}
 use Rattle.argo_model.specs.Machine.{AllStand}
 use Rattle.argo_model.specs.Closed.{heard_at, heard_from, steps_by, heard_of, heard_all}
 use Rattle.argo_model.specs.Replies.{reply_steps, heard_line_by, heard_among, KeepsSteps}
-
-is_same : (a b : ℕ) → a ≡ b → eqb a b ≡ true
-is_same a b e = grind (arith, nat_tests)
-
-is_other : (a b : ℕ) → a ≢ b → eqb a b ≡ false
-is_other a b e = grind (arith, nat_tests)
+use Rattle.argo_model.proofs.TestLaws.{same_number, other_number}
 
 -- one step more of a section
 heard_from-push : (n : ℕ) (ts : List Step) (t : Step) → heard_from n (ts ++ t ∷ []) ≡ heard_from n ts ++ heard_at (n + length ts) t.reply
@@ -35,14 +29,14 @@ heard_of-same : (steps : List Step) (x : Step) (v n : ℕ) → x.vcpu ≡ v → 
 heard_of-same steps x v n e at =
     let many = length-filter (λ t. eqb t.vcpu v) steps in
     let k : 1 + length (steps_by v steps) ≡ n = omega arith in
-    ap (heard_from 1) (filter-append (λ t. eqb t.vcpu v) steps (x ∷ []) ∙ ap (λ b. steps_by v steps ++ cond b (x ∷ []) []) (is_same x.vcpu v e))
+    ap (heard_from 1) (filter-append (λ t. eqb t.vcpu v) steps (x ∷ []) ∙ ap (λ b. steps_by v steps ++ cond b (x ∷ []) []) (same_number x.vcpu v e))
     ∙ heard_from-push 1 (steps_by v steps) x
     ∙ ap (λ m. heard_of steps v ++ heard_at m x.reply) k
 
 -- a step of another section is nothing to it
 heard_of-other : (steps : List Step) (x : Step) (v : ℕ) → x.vcpu ≢ v → heard_of (steps ++ x ∷ []) v ≡ heard_of steps v
 heard_of-other steps x v e =
-    ap (heard_from 1) (filter-append (λ t. eqb t.vcpu v) steps (x ∷ []) ∙ ap (λ b. steps_by v steps ++ cond b (x ∷ []) []) (is_other x.vcpu v e)
+    ap (heard_from 1) (filter-append (λ t. eqb t.vcpu v) steps (x ∷ []) ∙ ap (λ b. steps_by v steps ++ cond b (x ∷ []) []) (other_number x.vcpu v e)
     ∙ append-nil (steps_by v steps))
 
 -- one line more
@@ -65,10 +59,10 @@ heard_among-more ds ns i d v many inside read =
     ∙ heard_among-push (take i ds) (take i ns) d (get_or ns i 0) v (length-take-le i ns (omega arith) ∙ sym (length-take-le i ds (omega arith)))
 
 line_of-same : (v line n w : ℕ) (r : Reply) → v ≡ w → heard_line_by w (record { vcpu = v; line = line; reply = r }) n ≡ heard_at n (Some r)
-line_of-same v line n w r e = ap (λ b. cond b (record { reply = r; step = n } ∷ []) []) (is_same v w e)
+line_of-same v line n w r e = ap (λ b. cond b (record { reply = r; step = n } ∷ []) []) (same_number v w e)
 
 line_of-other : (v line n w : ℕ) (r : Reply) → v ≢ w → heard_line_by w (record { vcpu = v; line = line; reply = r }) n ≡ []
-line_of-other v line n w r e = ap (λ b. cond b (record { reply = r; step = n } ∷ []) []) (is_other v w e)
+line_of-other v line n w r e = ap (λ b. cond b (record { reply = r; step = n } ∷ []) []) (other_number v w e)
 
 -- one step more of section v, for section w
 heard_step : (ds : List DoneLine) (ns : List ℕ) (steps : List Step) (x : Step) (v line n : ℕ) (reply : Option Reply) (w : ℕ)

@@ -1,23 +1,12 @@
 -- Laws of the bytes of rings.
-use Rattle.std.proofs.Common.{◌≡◌, ℕ, zero, suc, ◌+◌, ◌*◌, ◌/◌, ◌<◌, ◌≤◌, Bool, true, false, ◌&&◌, nat_lt, IsTrue, List, [], ◌∷◌, ◌++◌, length, take, drop, get_or, map, refl, subst, arith, length-take, length-drop, length-append}
-use Rattle.std.proofs.lemmas.Bool.{false≢true}
+use Rattle.std.proofs.Common.{◌≡◌, ℕ, zero, suc, ◌+◌, ◌*◌, ◌/◌, ◌<◌, ◌≤◌, Bool, nat_lt, IsTrue, List, [], ◌∷◌, ◌++◌, length, take, drop, get_or, map, refl, subst, arith, length-take, length-drop, length-append}
 use Rattle.std.proofs.lemmas.Bool.Decides.{nat_tests}
 use Rattle.std.specs.List.{list_all, range_with_len}
 use Rattle.argo_base.specs.declared.piece.Piece.{Piece}
 use Rattle.argo_base.specs.Pieces.{pieces, piece_in, pages_touched}
 use Rattle.argo_base.specs.Splice.{splice}
 use Rattle.argo_model.specs.Sound.{are_there}
-
--- both of two tests hold
-pub both : (x y : Bool) → IsTrue (x && y) → IsTrue x × IsTrue y
-both true true h = (refl, refl)
-both true false h = absurd (false≢true h)
-both false y h = absurd (false≢true h)
-
-pub and_also : (x y : Bool) → IsTrue x → IsTrue y → IsTrue (x && y)
-and_also true true hx hy = refl
-and_also true false hx hy = hy
-and_also false y hx hy = hx
+use Rattle.argo_model.proofs.TestLaws.{both, and_also}
 
 -- the page at a place of a list is there
 pub there_at : (count : ℕ) (pages : List ℕ) (i : ℕ) → IsTrue (are_there count pages) → i < length pages → get_or pages i 0 < count

@@ -15,7 +15,7 @@ use Rattle.argo_model.specs.Told.{unless}
 use Rattle.argo_model.specs.Notices.{Notices, signal_all}
 use Rattle.argo_model.specs.Signals.{signal_each}
 use Rattle.argo_model.specs.Sound.{is_sound_live, is_sound_life, is_sound_domain, IsSoundWorld, is_young_life, is_young_domain, IsYoungWorld}
-use Rattle.argo_model.proofs.RingLaws.{both, and_also}
+use Rattle.argo_model.proofs.TestLaws.{both, and_also}
 use Rattle.argo_model.proofs.EntryLaws.{all_pass, all_pass-lookup, all_pass-set_value, all_pass-weaker}
 
 -- every domain of the state passes a test

@@ -10,7 +10,8 @@ use Rattle.argo_base.proofs.SlotLaws.{IsLegal, legal}
 use Rattle.argo_model.specs.declared.state.Live.{Live}
 use Rattle.argo_model.specs.declared.state.Ring.{Ring}
 use Rattle.argo_model.specs.Sound.{are_there, is_sound_ring, is_sound_live}
-use Rattle.argo_model.proofs.RingLaws.{both, there_at}
+use Rattle.argo_model.proofs.RingLaws.{there_at}
+use Rattle.argo_model.proofs.TestLaws.{both}
 use Rattle.argo_model.proofs.EntryLaws.{all_pass-lookup, all_pass-set_value}
 
 -- what is known of a ring in a memory of so many pages

@@ -1,5 +1,5 @@
 -- What the acts leave of clean rings that hold their untaken messages: a start, an accepted message, and both in another ring of
--- the same owner. Puts are in PutLaws.
+-- the same owner. Puts are in HoldInLaws.
 use Rattle.std.proofs.Common.{◌≡◌, ℕ, ◌+◌, ◌-◌, ◌*◌, ◌%◌, ◌<◌, ◌≤◌, Bool, true, false, if◌then◌else◌, List, [], ◌∷◌, ◌++◌, length, take, drop, refl, sym, ◌∙◌, subst, arith, length-take, length-drop}
 use Rattle.std.specs.Prelude.{IsTrue}
 use Rattle.argo_base.specs.declared.message.Message.{Message}
@@ -8,9 +8,8 @@ use Rattle.argo_base.proofs.SlotLaws.{IsPlace, place_after_below}
 use Rattle.argo_model.specs.declared.state.Ring.{Ring}
 use Rattle.argo_model.specs.Message.{spell, room_of}
 use Rattle.argo_model.specs.Holds.{Holds}
-use Rattle.argo_model.specs.RingBytes.{rx_word, tx_word, write_ring, write_tx}
+use Rattle.argo_model.specs.RingBytes.{ring_bytes, slots_of, rx_word, tx_word, write_ring, write_tx}
 use Rattle.argo_model.specs.Starts.{started, memory_after_start}
-use Rattle.argo_model.specs.Final.{ring_bytes, slots_of}
 use Rattle.argo_model.specs.Deliver.{ring_with, memory_with}
 use Rattle.argo_model.proofs.HoldLaws.{starts_clean_says, holds-none}
 use Rattle.argo_model.proofs.PageLaws.{StandsOn, Apart, stands_on_after, length-write_ring, ring_bytes-elsewhere, tx-elsewhere}

@@ -9,9 +9,9 @@ use Rattle.argo_model.specs.Act.{Told, told, act_of_control}
 abbrev pub if_lives : ℕ → Domain → Option Domain
 if_lives generation x = if is_some (life_in generation x) then Some x else None
 
-abbrev pub caller_of : State → ℕ → ℕ → Option Domain
-caller_of s d generation = option_and_then (if_lives generation) (domain_of s d)
+abbrev pub living_caller : State → ℕ → ℕ → Option Domain
+living_caller s d generation = option_and_then (if_lives generation) (domain_of s d)
 
 -- an action of the control section, where a caller lives
 abbrev pub act_if_calls : State → ℕ → ℕ → Action → Told
-act_if_calls s d generation a = if is_some (caller_of s d generation) then act_of_control s a else told Gone s
+act_if_calls s d generation a = if is_some (living_caller s d generation) then act_of_control s a else told Gone s

@@ -1,6 +1,6 @@
 -- The words in which worked examples are told: short forms of lines, and texts by lines.
 use Rattle.std.specs.Prelude.{ℕ, ◌++◌, true, List, [], ◌∷◌, flat_map}
-use Rattle.argo_base.specs.Layout.{addr_bytes, send_addr_bytes, iov_bytes, register_ring_bytes, unregister_ring_bytes, u64_bytes}
+use Rattle.argo_base.specs.Layout.{addr_bytes, send_addr_bytes, iov_bytes, register_ring_bytes, u64_bytes}
 use Rattle.argo_model.specs.declared.scripts.Actor.TheVariants.{Vcpu, Control}
 use Rattle.argo_model.specs.declared.scripts.DomainLine.{DomainLine}
 use Rattle.argo_model.specs.declared.line.Line.{Line}
@@ -25,10 +25,6 @@ control lines = record { actor = Control; lines = lines }
 abbrev pub register_lines : (port partner len page : ℕ) → List Line
 register_lines port partner len page =
     Store 0 (register_ring_bytes port partner 0 len) ∷ Store 0x10 (u64_bytes page) ∷ Op 1 0 0x10 1 0 ∷ []
-
--- takes a ring away
-abbrev pub unregister_lines : (port partner : ℕ) → List Line
-unregister_lines port partner = Store 0 (unregister_ring_bytes port partner 0) ∷ Op 2 0 0 0 0 ∷ []
 
 -- sends the bytes at an address from port 9 of the caller, with type 7
 abbrev pub send_from : (at caller to port size : ℕ) → List Line

@@ -1,5 +1,5 @@
 -- What a report shows of a run.
-use Rattle.std.specs.Prelude.{ℕ, ◌+◌, ◌*◌, Bool, true, false, ◌==◌, if◌then◌else◌, List, [], ◌∷◌, length, map, take, drop, sum_by, count_by, flat_map, filter_map, replicate, Option, Some, None, option_map, fold}
+use Rattle.std.specs.Prelude.{ℕ, ◌+◌, Bool, true, false, ◌==◌, if◌then◌else◌, List, [], ◌∷◌, length, map, sum_by, count_by, flat_map, filter_map, replicate, Option, Some, None, option_map, fold}
 use Rattle.std.specs.List.{range_with_len}
 use Rattle.argo_base.specs.declared.ring_key.RingKey.{RingKey}
 use Rattle.argo_model.specs.declared.action.Outcome.{Outcome}
@@ -15,6 +15,7 @@ use Rattle.argo_model.specs.declared.closing.Final.{Final}
 use Rattle.argo_model.specs.declared.state.Ring.{Ring}
 use Rattle.argo_model.specs.declared.state.Live.{Live}
 use Rattle.argo_model.specs.declared.state.Domain.{Domain}
+use Rattle.argo_model.specs.RingBytes.{slots_of}
 use Rattle.argo_model.specs.Script.{Script}
 use Rattle.argo_model.specs.Run.{Step, Course, run}
 
@@ -81,14 +82,6 @@ totals_after t o =
       accepted = t.accepted + (if is_accepted (accepted_size o) then 1 else 0);
       bytes = t.bytes + size_or_none (accepted_size o);
     }
-
--- the bytes of a ring: those of its pages, one page after another
-abbrev pub ring_bytes : List ℕ → List ℕ → List ℕ
-ring_bytes memory pages = flat_map (λ page. take 4096 (drop (4096 * page) memory)) pages
-
--- its slots follow the 64 bytes of its header
-abbrev pub slots_of : List ℕ → Ring → List ℕ
-slots_of memory r = take r.len (drop 64 (ring_bytes memory r.pages))
 
 abbrev pub notice_line_of : ℕ × ℕ → NoticeLine
 notice_line_of n = record { dom = n.0; size = n.1 }

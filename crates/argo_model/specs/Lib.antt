@@ -10,6 +10,7 @@ pub mod Deliver
 pub mod Destroy
 pub mod Entries
 pub mod Examples
+pub mod ExamplesDeeds
 pub mod ExamplesEnds
 pub mod ExamplesIovs
 pub mod ExamplesMemory

@@ -26,7 +26,7 @@ IsShort (Faulted n) = n ≤ longest_body
 IsShort (Refused e) = Unit {0}
 
 -- the ring stands in the state as it was met
-pub record Stands (s : State) (at : Met) : Type 0 where
+pub record StandsIn (s : State) (at : Met) : Type 0 where
   pub there : domain_of s at.owner ≡ Some at.domain
   pub lives : at.domain.life ≡ Some at.live
   pub found : lookup (is_at (key_cmp at.key)) at.live.rings ≡ Some at.ring
@@ -38,7 +38,7 @@ refused_or (Some e) s rest = told (IsRefused e) s
 
 -- wherever the ring stands in its owner's memory, a body of so many bytes is refused so, or fits; then the ring stays
 pub record RingRefuses (memory : List ℕ) (old : Ring) (sender size : ℕ) (refusal : Option Errno) (new : Ring) : Type 0 where
-  pub tells : (s : State) (at : Met) (rest : Told) → Stands s at → at.live.bytes ≡ memory → at.ring ≡ old
+  pub tells : (s : State) (at : Met) (rest : Told) → StandsIn s at → at.live.bytes ≡ memory → at.ring ≡ old
       → if_it_fits s sender at size rest ≡ refused_or refusal (set_ring s at new) rest
   pub stays : refusal ≡ None → new ≡ old
   pub fits : refusal ≡ None → room size ≤ old.len
@@ -46,7 +46,7 @@ pub record RingRefuses (memory : List ℕ) (old : Ring) (sender size : ℕ) (ref
 -- wherever the ring stands with its owner's memory and flag, the offer has this outcome, and changes these three alone
 abbrev pub RingOffers : Parcel → List ℕ → Bool → Ring → Outcome → List ℕ → Bool → Ring → Type 0
 RingOffers p memory flag old outcome new_memory new_flag new =
-    (s : State) (at : Met) → Stands s at → at.live.bytes ≡ memory → at.live.flag ≡ flag → at.ring ≡ old
+    (s : State) (at : Met) → StandsIn s at → at.live.bytes ≡ memory → at.live.flag ≡ flag → at.ring ≡ old
     → offer s p.sender p.port p.kind at p.load
     ≡ record {
       outcome = outcome;

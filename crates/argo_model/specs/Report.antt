@@ -4,6 +4,7 @@ use Rattle.std.specs.List.{join_with_byte, list_all, range_with_len, enumerate_f
 use Rattle.std.specs.Int.{div_ceil}
 use Rattle.std.specs.Fmt.{digit_glyph, signed_decimal}
 use Rattle.argo_base.specs.declared.message.Message.{Message}
+use Rattle.argo_base.specs.Match.{is_wildcard}
 use Rattle.argo_model.specs.declared.reply.Reply.{Reply}
 use Rattle.argo_model.specs.declared.reply.Reply.TheVariants.{Stored, Hex, Number, Signal, NoSignal, Msg, Empty, Bad, Fault, Gone}
 use Rattle.argo_model.specs.declared.closing.Run.{Run}
@@ -80,7 +81,7 @@ domain_line version d =
 
 -- the wildcard partner of a ring is `any`
 abbrev pub partner_word : ℕ → List ℕ
-partner_word partner = if partner == 0x7FF4 then codes "any" else decimal partner
+partner_word partner = if is_wildcard partner then codes "any" else decimal partner
 
 abbrev pub clean_word : Bool → List ℕ
 clean_word clean = if clean then codes "clean" else codes "dirty"

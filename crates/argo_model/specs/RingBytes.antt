@@ -1,10 +1,19 @@
 -- The bytes of a ring: those of its pages, one page after another. The rx word and the tx word come first, and the slots
 -- follow the 64 bytes of the header.
-use Rattle.std.specs.Prelude.{ℕ, ◌+◌, ◌-◌, ◌*◌, List, [], ◌∷◌, length, take, drop, slice_index}
+use Rattle.std.specs.Prelude.{ℕ, ◌+◌, ◌-◌, ◌*◌, List, [], ◌∷◌, length, take, drop, flat_map, slice_index}
 use Rattle.argo_base.specs.declared.piece.Piece.{Piece}
 use Rattle.argo_base.specs.Layout.{u32_at, u32_bytes}
 use Rattle.argo_base.specs.Pieces.{pieces}
 use Rattle.argo_base.specs.Splice.{splice}
+use Rattle.argo_model.specs.declared.state.Ring.{Ring}
+
+-- the bytes of a ring, all of them
+abbrev pub ring_bytes : List ℕ → List ℕ → List ℕ
+ring_bytes memory pages = flat_map (λ page. take 4096 (drop (4096 * page) memory)) pages
+
+-- its slots follow the 64 bytes of its header
+abbrev pub slots_of : List ℕ → Ring → List ℕ
+slots_of memory r = take r.len (drop 64 (ring_bytes memory r.pages))
 
 -- where the page at a place of the ring's page list begins in its owner's memory
 abbrev pub page_start : List ℕ → ℕ → ℕ

@@ -26,11 +26,11 @@ standing_in name x live =
     (λ e. record { owner = name.owner; domain = x; live = live; key = e.0; ring = e.1 })
     (find (λ e. e.1.serial == name.serial) live.rings)
 
-abbrev pub standing_of : RingName → Domain → Option Met
-standing_of name x = option_and_then (standing_in name x) (life_in name.generation x)
+abbrev pub standing_of_owner : RingName → Domain → Option Met
+standing_of_owner name x = option_and_then (standing_in name x) (life_in name.generation x)
 
 abbrev pub standing : State → RingName → Option Met
-standing s name = option_and_then (standing_of name) (domain_of s name.owner)
+standing s name = option_and_then (standing_of_owner name) (domain_of s name.owner)
 
 -- the size that a domain waits for on the ring of a name
 abbrev pub notice_on : State → RingName → ℕ → Option ℕ

@@ -1,6 +1,7 @@
 -- What a script is, and the rules that every script keeps.
-use Rattle.std.specs.Prelude.{ℕ, ◌%◌, Bool, true, false, ◌&&◌, ◌||◌, not, ◌==◌, nat_lt, nat_le, List, [], ◌∷◌, length, sum_by, count_by}
+use Rattle.std.specs.Prelude.{ℕ, Bool, true, false, ◌&&◌, ◌||◌, not, ◌==◌, nat_lt, nat_le, List, [], ◌∷◌, length, sum_by, count_by}
 use Rattle.std.specs.List.{list_all, list_any}
+use Rattle.argo_base.specs.Slots.{is_legal}
 use Rattle.argo_model.specs.declared.scripts.DomainLine.{DomainLine}
 use Rattle.argo_model.specs.declared.scripts.Actor.{Actor}
 use Rattle.argo_model.specs.declared.scripts.Actor.TheVariants.{Vcpu, Control}
@@ -34,10 +35,6 @@ is_short n = nat_le 1 n && nat_le n 64
 abbrev pub is_turn_count : ℕ → Bool
 is_turn_count n = nat_le 1 n && nat_le n 1048576
 
--- a ring has 48 to 0x1000000 slot bytes, a multiple of 16
-abbrev pub is_ring_length : ℕ → Bool
-is_ring_length n = nat_le 48 n && nat_le n 0x1000000 && (n % 16 == 0)
-
 -- a generation is 1 to 8,193
 abbrev pub is_generation : ℕ → Bool
 is_generation g = nat_le 1 g && nat_le g 8193
@@ -48,7 +45,7 @@ is_vcpu_line (Store at bytes) = is_short (length bytes)
 is_vcpu_line (Load at n) = is_short n
 is_vcpu_line (Op c a1 a2 a3 a4) = true
 is_vcpu_line (Await turns) = is_turn_count turns
-is_vcpu_line (Recv page len) = nat_le page 4607 && is_ring_length len
+is_vcpu_line (Recv page len) = nat_le page 4607 && is_legal len
 is_vcpu_line (Destroy d) = false
 is_vcpu_line (Reset d) = false
 is_vcpu_line (Create d) = false

@@ -10,7 +10,8 @@ pub enum Load {
     Refused(Errno),
 }
 
-/// One atomic step of a virtual CPU: a fetch or a store inside one page, or the one deciding act of a hypercall.
+/// One step of a section: a fetch or a put inside one page, one act of a hypercall, a look at the flag, an act of the control
+/// section, or a rest.
 #[derive(Debug, Drop)]
 pub enum Action {
     Rest,

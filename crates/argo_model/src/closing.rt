@@ -8,6 +8,7 @@ pub struct Run {
     pub count: u64,
 }
 
+/// A schedule, in its order. No two neighbours are of one section.
 pub type Runs = Items<Run>;
 
 /// A line that is done: its section, its place there from 1, and its reply.
@@ -18,6 +19,7 @@ pub struct DoneLine {
     pub reply: Reply,
 }
 
+/// The lines that are done, in the order in which their replies came.
 pub type DoneList = Items<DoneLine>;
 
 /// What a section did: its steps, its accepted sends, and the bytes of their bodies.
@@ -28,6 +30,7 @@ pub struct Totals {
     pub bytes: u64,
 }
 
+/// The totals of each section, by its number.
 pub type TotalList = Items<Totals>;
 
 /// A sender that waits for room, and the size of body that it waits for.
@@ -37,6 +40,7 @@ pub struct NoticeLine {
     pub size: u32,
 }
 
+/// The notices of a ring, by rising domain.
 pub type NoticeLines = Items<NoticeLine>;
 
 /// A ring as it stands at the end.
@@ -51,6 +55,7 @@ pub struct FinalRing {
     pub slots: Bytes,
 }
 
+/// The rings of a domain, by rising port, then rising partner.
 pub type FinalRings = Items<FinalRing>;
 
 /// A domain as it stands at the end. One that is gone has a clear flag and no rings.
@@ -64,6 +69,7 @@ pub struct FinalDomain {
     pub rings: FinalRings,
 }
 
+/// The domains of a script, by rising id.
 pub type FinalDomains = Items<FinalDomain>;
 
 /// All that a report shows of a run: the schedule, the lines done in order of completion, the domains by rising id, and

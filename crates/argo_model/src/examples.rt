@@ -1,5 +1,6 @@
 //! Worked examples: what the machine does with some scripts, to the last byte of their reports, and what its parts come to.
 
+ghost use Rattle.argo_model.specs.ExamplesDeeds.{NoticeIsServed, PingAndPongHasCauses, PingAndPongIsPossible, PingAndPongIsTaken, PingInShort};
 ghost use Rattle.argo_model.specs.ExamplesEnds.{DestroyedBetweenGatherAndDelivery, ResetAndCreate};
 ghost use Rattle.argo_model.specs.ExamplesIovs.{GatheredIovs, PiecesOfRanges, Verdicts};
 ghost use Rattle.argo_model.specs.ExamplesMemory.{StoreAcrossPages};
@@ -86,4 +87,29 @@ pub fn verdicts()
 /// Buffers as they are read from guest memory, and the pieces in which they are gathered.
 pub fn gathered_iovs()
     ensures { GatheredIovs }
+{}
+
+/// In ping and pong each ring accepted one message, and its owner took it.
+pub fn ping_and_pong_is_taken()
+    ensures { PingAndPongIsTaken }
+{}
+
+/// The replies of the two sends of ping and pong, by what their steps looked at.
+pub fn ping_and_pong_has_causes()
+    ensures { PingAndPongHasCauses }
+{}
+
+/// Each outcome of ping and pong is possible for its script.
+pub fn ping_and_pong_is_possible()
+    ensures { PingAndPongIsPossible }
+{}
+
+/// The outcomes of a send as two numbers each.
+pub fn ping_in_short()
+    ensures { PingInShort }
+{}
+
+/// A sender is noted and served: what sets and clears the flags, and how the notice begins and ends.
+pub fn notice_is_served()
+    ensures { NoticeIsServed }
 {}

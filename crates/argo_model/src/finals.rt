@@ -1,5 +1,6 @@
 ghost use Rattle.std.specs.Prelude.{◌≡◌, ◌++◌, ◌∷◌, [], IfOk, OnOk, OnErr, map, take, drop, ◌*◌};
-ghost use Rattle.argo_model.specs.Final.{final_domain, final_life, final_ring, notice_line_of, ring_bytes};
+ghost use Rattle.argo_model.specs.Final.{final_domain, final_life, final_ring, notice_line_of};
+ghost use Rattle.argo_model.specs.RingBytes.{ring_bytes};
 
 use crate::world::World;
 use crate::{

@@ -44,4 +44,5 @@ pub enum Line {
     },
 }
 
+/// The lines of a section, in the order of the script.
 pub type Lines = Items<Line>;

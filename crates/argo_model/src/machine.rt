@@ -65,7 +65,7 @@ impl Machine {
         })
     }
 
-    /// Whether a section has no line left. A number that is no section's is not unfinished either.
+    /// Whether a section has no line left. It is true also of a number that is no section's.
     pub fn finished(&self, v: u32) -> bool
         ensures { IsTrue result ↔ (is_open (run self.now.script self.now.schedule) v ≡ false) }
     {

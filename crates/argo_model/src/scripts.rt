@@ -10,6 +10,7 @@ pub struct DomainLine {
     pub on: bool,
 }
 
+/// The domains of a script, in its order.
 pub type DomainLines = Items<DomainLine>;
 
 /// Who works through a section: a virtual CPU of a domain of that generation, or the control section.
@@ -39,6 +40,7 @@ impl Model for Part {
     ghost invariant = { λ p. IsTrue (is_lawful_section (record { actor = p.actor; lines = p.lines })) };
 }
 
+/// The sections of a script, in its order. A section's number is its place here, from 0.
 pub type Parts = Items<Part>;
 
 /// A whole script. Contracts see it as a `Script`, which keeps the rules on places, ranges, domains and limits.

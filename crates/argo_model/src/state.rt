@@ -6,7 +6,7 @@ use std::marker::Model;
 /// A ring of a domain.
 #[derive(Debug, Drop)]
 pub struct Ring {
-    /// Its number among the rings that its owner ever registered, from 1.
+    /// Its number among the rings that its owner made in this generation, from 1. A reset does not begin anew.
     pub serial: u64,
     /// The slot bytes: a multiple of 16 from 48 to 0x1000000.
     pub len: u32,

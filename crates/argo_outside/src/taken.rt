@@ -1,5 +1,6 @@
-ghost use Rattle.std.specs.Prelude.{◌≡◌, ◌+◌, ◌<◌, ◌≤◌, ◌↔◌, length, IsTrue, IfOk, OnOk, OnErr, IsErrOf};
+ghost use Rattle.std.specs.Prelude.{◌≡◌, ◌+◌, ◌<◌, ◌≤◌, ◌↔◌, length, IsTrue, Some, IfOk, OnOk, OnErr, IsErrOf};
 ghost use Rattle.argo_outside.specs.Faults.{Rose};
+ghost use Rattle.argo_outside.specs.Messages.{take_fault_text};
 ghost use Rattle.argo_outside.specs.Source.{behind, IsAtEnd, LostUpTo};
 ghost use Rattle.argo_outside.specs.declared.taken.TakeFault.TheVariants.{Failed as failed_fault, NoMemory as memory_fault};
 
@@ -28,6 +29,8 @@ pub enum TakeFault {
 }
 
 impl fmt::Display for TakeFault {
+    ghost output = { λ fault. Some (take_fault_text fault) };
+
     fn fmt<W: fmt::Write>(&self, f: &mut fmt::Formatter<W>) -> fmt::Result {
         match self {
             TakeFault::Failed => Failed.fmt(f),

@@ -15,7 +15,7 @@ use Rattle.serial_run.specs.Picks.{IsRunByPicks}
 use Rattle.argo_run.specs.declared.status.Status.{Status}
 use Rattle.argo_run.specs.declared.status.Status.TheVariants as s
 use Rattle.argo_run.specs.Due.{IsReport, fault_text}
-use Rattle.argo_run.specs.Ends.{IsRead, IsNoScript, IfScript, Agrees, AgreesWith, IsComplete}
+use Rattle.argo_run.specs.Ends.{IsRead, IsNoScript, IfScript, Agrees, AgreesWith, IsDoneWhereNothingFails}
 use Rattle.argo_run.specs.Serve.{WroteReport, RanScript, ServedFor}
 
 report_is : (seed : ℕ) (script : Script) (shown : Final) → IsRunByPicks script seed shown → IsReport seed script (report_of shown)
@@ -115,7 +115,7 @@ complete seed script written written_new rose (s.Script line kind) h still = abs
 complete seed script written written_new rose s.NoMemory h still = inr refl
 
 pub ends_complete : (seed : ℕ) (left left_new written written_new : Option (List ℕ)) (text : List ℕ) (source_rose rose : Type 0) (status : Status) → IsRead left left_new text
-    → ServedFor seed (scripts_of text) written written_new rose status → IsComplete left source_rose rose status
+    → ServedFor seed (scripts_of text) written written_new rose status → IsDoneWhereNothingFails left source_rose rose status
 ends_complete seed left left_new written written_new text source_rose rose status is_read h = λ read script here is source_still still.
     let P : Result Script ScriptFault → Type 0 = λ given. ServedFor seed given written written_new rose status in
     complete seed script written written_new rose status (subst P (sym (same_answer left left_new text read is_read here) ∙ is) h) still

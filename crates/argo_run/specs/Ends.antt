@@ -86,8 +86,8 @@ abbrev pub AgreesWith : Option (List ℕ) → Status → Type 0
 AgreesWith left status = (read : List ℕ) → left ≡ Some read → Agrees (scripts_of read) status
 
 -- where the source tells that its bytes are a script, and no count rose, the run is done or memory ran out
-abbrev pub IsComplete : Option (List ℕ) → Type 0 → Type 0 → Status → Type 0
-IsComplete left source_rose sink_rose status =
+abbrev pub IsDoneWhereNothingFails : Option (List ℕ) → Type 0 → Type 0 → Status → Type 0
+IsDoneWhereNothingFails left source_rose sink_rose status =
     (read : List ℕ) (script : Script) → left ≡ Some read → scripts_of read ≡ Ok script → (source_rose → ⊥) → (sink_rose → ⊥)
     → (status ≡ s.Done) ⊎ (status ≡ s.NoMemory)
 

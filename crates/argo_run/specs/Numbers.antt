@@ -3,10 +3,10 @@ use Rattle.std.specs.Prelude.{ℕ}
 use Rattle.argo_run.specs.declared.status.Status.{Status}
 use Rattle.argo_run.specs.declared.status.Status.TheVariants.{Done, Usage, SourceFault, SinkFault, Script, NoMemory}
 
-abbrev pub number_of : Status → ℕ
-number_of Done = 0
-number_of Usage = 2
-number_of SourceFault = 3
-number_of SinkFault = 4
-number_of (Script line kind) = 5
-number_of NoMemory = 7
+abbrev pub status_number : Status → ℕ
+status_number Done = 0
+status_number Usage = 2
+status_number SourceFault = 3
+status_number SinkFault = 4
+status_number (Script line kind) = 5
+status_number NoMemory = 7

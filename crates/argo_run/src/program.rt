@@ -2,7 +2,7 @@ ghost use Rattle.std.specs.Prelude.{◌≡◌, ◌≤◌, None, ⊤};
 ghost use Rattle.argo_outside.specs.Faults.{Rose};
 ghost use Rattle.argo_outside.specs.Sink.{appended};
 ghost use Rattle.argo_run.specs.Due.{usage_text};
-ghost use Rattle.argo_run.specs.Ends.{IsDone, IsNoScript, IsTextCutShort, IsLeftOff, IfDone, IfUsage, IfSourceFault, IfSinkFault, IfScript, IfNoMemory, AgreesWith, IsComplete, IsUsageOrSinkFault, seeds, HasSeed};
+ghost use Rattle.argo_run.specs.Ends.{IsDone, IsNoScript, IsTextCutShort, IsLeftOff, IfDone, IfUsage, IfSourceFault, IfSinkFault, IfScript, IfNoMemory, AgreesWith, IsDoneWhereNothingFails, IsUsageOrSinkFault, seeds, HasSeed};
 ghost use Rattle.argo_run.specs.Serve.{WroteUsage};
 
 use crate::Status;
@@ -36,7 +36,7 @@ pub fn run<S: Source, K: Sink>(
     ensures no_memory { IfNoMemory result (HasSeed words.now (λ seed.
         IsLeftOff seed (S.left src.old) (S.left src.new) (K.written out.old) (K.written out.new))) }
     ensures agrees { HasSeed words.now (λ seed. ⊤) → AgreesWith (S.left src.old) result }
-    ensures complete { HasSeed words.now (λ seed. ⊤) → IsComplete (S.left src.old)
+    ensures complete { HasSeed words.now (λ seed. ⊤) → IsDoneWhereNothingFails (S.left src.old)
         (Rose (S.faults src.old) (S.faults src.new)) (Rose (K.faults out.old) (K.faults out.new)) result }
 {
     match seed_of(words) {

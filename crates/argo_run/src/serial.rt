@@ -4,7 +4,7 @@ ghost use Rattle.argo_outside.specs.Faults.{Rose};
 ghost use Rattle.argo_model.specs.Report.{report_of};
 ghost use Rattle.script_text.specs.Scripts.{scripts_of};
 ghost use Rattle.argo_run.specs.Due.{fault_text};
-ghost use Rattle.argo_run.specs.Ends.{IsRead, IsDone, IsNoScript, IsCutShort, IsLeftOff, IfDone, IfUsage, IfSourceFault, IfSinkFault, IfScript, IfNoMemory, AgreesWith, IsComplete};
+ghost use Rattle.argo_run.specs.Ends.{IsRead, IsDone, IsNoScript, IsCutShort, IsLeftOff, IfDone, IfUsage, IfSourceFault, IfSinkFault, IfScript, IfNoMemory, AgreesWith, IsDoneWhereNothingFails};
 ghost use Rattle.argo_run.specs.Serve.{WroteReport, WroteFault, ServedFor, IsReadFault};
 
 use crate::Status;
@@ -21,7 +21,7 @@ const TOO_MANY_BYTES: u64 = 4_194_305;
 
 /// Reads a script, runs it by the picks of a seed, and writes its report, or the line of its fault.
 ///
-/// It waits for nobody, and always returns.
+/// It always returns, where the calls of its source and its sink do.
 pub fn run_serial<S: Source, K: Sink>(alloc: Global, seed: u64, src: &mut S, out: &mut K) -> Status
     ensures source { S.faults src.old ≤ S.faults src.new }
     ensures sink { K.faults out.old ≤ K.faults out.new }
@@ -37,7 +37,7 @@ pub fn run_serial<S: Source, K: Sink>(alloc: Global, seed: u64, src: &mut S, out
         (λ f. IsNoScript f (S.left src.old) (S.left src.new) (K.written out.old) (K.written out.new)) }
     ensures no_memory { IfNoMemory result (IsLeftOff seed (S.left src.old) (S.left src.new) (K.written out.old) (K.written out.new)) }
     ensures agrees { AgreesWith (S.left src.old) result }
-    ensures complete { IsComplete (S.left src.old) (Rose (S.faults src.old) (S.faults src.new)) (Rose (K.faults out.old) (K.faults out.new)) result }
+    ensures complete { IsDoneWhereNothingFails (S.left src.old) (Rose (S.faults src.old) (S.faults src.new)) (Rose (K.faults out.old) (K.faults out.new)) result }
 {
     match read_text(alloc, src) {
         Ok(text) => serve(alloc, seed, text.as_slice(), out),

@@ -1,5 +1,5 @@
 ghost use Rattle.std.specs.Prelude.{◌≡◌};
-ghost use Rattle.argo_run.specs.Numbers.{number_of};
+ghost use Rattle.argo_run.specs.Numbers.{status_number};
 
 use script_text::ScriptKind;
 
@@ -8,7 +8,7 @@ use script_text::ScriptKind;
 pub enum Status {
     /// The text that is due was written whole.
     Done,
-    /// The words are none of the three forms, and the line of usage was written.
+    /// The words are not `serial N`, and the line of usage was written.
     Usage,
     /// The source failed, and counted the fault. Nothing was written.
     SourceFault,
@@ -16,14 +16,14 @@ pub enum Status {
     SinkFault,
     /// The bytes are no script. A line of the fault was written; line 0 is the script as a whole.
     Script { line: u32, kind: ScriptKind },
-    /// Memory ran out. A part of the text that was due was written, and not all of it.
+    /// Memory ran out. Nothing was written, or a part of the text that was due.
     NoMemory,
 }
 
 impl Status {
     /// The exit status of the program.
     pub fn number(self) -> u8
-        ensures { result ≡ number_of self }
+        ensures { result ≡ status_number self }
     {
         match self {
             Status::Done => 0,

@@ -1,6 +1,6 @@
 ghost use Rattle.std.specs.Prelude.{◌≡◌, ◌+◌, ◌≤◌, ◌^◌, Some, None, map, if◌then◌else◌};
 ghost use Rattle.std.specs.String.{string_bytes};
-ghost use Rattle.argo_run.specs.Words.{is_digit, number_of, is_seed, seed_of};
+ghost use Rattle.argo_run.specs.Words.{is_digit, decimal_value, is_seed, seed_of};
 
 /// The seed of the words `serial N`.
 pub(crate) fn seed_of(words: &Vec<String>) -> Option<u64>
@@ -14,7 +14,7 @@ pub(crate) fn seed_of(words: &Vec<String>) -> Option<u64>
 
 // The number of a word that spells a seed.
 fn number_of(word: &[u8]) -> Option<u64>
-    ensures { result ≡ (if is_seed word.now then Some (number_of word.now) else None) }
+    ensures { result ≡ (if is_seed word.now then Some (decimal_value word.now) else None) }
 {
     if word.is_empty() || word.len() > 20 {
         return None;

@@ -1,10 +1,10 @@
 -- The text of each kind of line.
 use Rattle.std.specs.Prelude.{ℕ, List}
 use Rattle.argo_model.specs.Report.{opening_line, summary_line, schedule_line, done_line, domain_line, ring_line, message_line, notice_line, slots_line, totals_line, end_line}
-use Rattle.report_text.specs.declared.line.Line.{Line}
-use Rattle.report_text.specs.declared.line.Line.TheVariants.{Opening, SummaryOpening, Schedule, Done, Domain, Ring, Message, Notice, Slots, Totals, End}
+use Rattle.report_text.specs.declared.line.ReportLine.{ReportLine}
+use Rattle.report_text.specs.declared.line.ReportLine.TheVariants.{Opening, SummaryOpening, Schedule, Done, Domain, Ring, Message, Notice, Slots, Totals, End}
 
-abbrev pub text_of : Line → List ℕ
+abbrev pub text_of : ReportLine → List ℕ
 text_of (Opening version) = opening_line version
 text_of SummaryOpening = summary_line
 text_of (Schedule runs) = schedule_line runs.now

@@ -1,3 +1,5 @@
+//! Whole reports of small runs, word for word.
+
 ghost use Rattle.report_text.specs.Examples.{ResetAndCreate, SecondBodyGetsANotice, StoreAcrossPages};
 
 /// The report of a store and a load across a page's end, word for word.

@@ -1,4 +1,5 @@
-ghost use Rattle.std.specs.Prelude.{◌≡◌};
+ghost use Rattle.std.specs.Prelude.{◌≡◌, Some};
+ghost use Rattle.report_text.specs.Messages.{write_fault_text};
 ghost use Rattle.report_text.specs.declared.fault.WriteFault.TheVariants.{Sink as sink_fault, NoMemory as memory_fault};
 
 use argo_base::NoMemory;
@@ -16,6 +17,8 @@ pub enum WriteFault {
 }
 
 impl fmt::Display for WriteFault {
+    ghost output = { λ fault. Some (write_fault_text fault) };
+
     fn fmt<W: fmt::Write>(&self, f: &mut fmt::Formatter<W>) -> fmt::Result {
         match self {
             WriteFault::Sink => Failed.fmt(f),

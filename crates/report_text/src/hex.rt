@@ -10,7 +10,7 @@ use std::str;
 const PART_BYTES: usize = 32;
 
 /// Adds two digits a byte.
-pub fn push_hex(text: &mut String, bytes: &[u8]) -> Result<(), AllocError>
+pub(crate) fn push_hex(text: &mut String, bytes: &[u8]) -> Result<(), AllocError>
     ensures { OnOk result (string_bytes text.new ≡ string_bytes text.old ++ hex_of bytes.now) }
 {
     let mut rest = bytes;

@@ -4,7 +4,7 @@
 //! to the sink, and where it fails, a part of it from the start. It stands on argo_model and argo_outside.
 #![tactic(auto)]
 
-mod examples;
+pub mod examples;
 mod fault;
 mod hex;
 mod line;
@@ -13,7 +13,6 @@ mod report;
 #[cfg(test)]
 mod tests;
 
-pub use examples::{reset_and_create, second_body_gets_a_notice, store_across_pages};
 pub use fault::WriteFault;
 pub use reply::reply_text;
 pub use report::{write_report, write_summary};

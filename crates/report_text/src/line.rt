@@ -10,7 +10,7 @@ use std::alloc::AllocError;
 
 /// A line of a report or of a summary.
 #[derive(Clone, Copy)]
-pub enum Line<'a> {
+pub(crate) enum ReportLine<'a> {
     Opening(u32),
     SummaryOpening,
     Schedule(&'a [Run]),
@@ -27,26 +27,26 @@ pub enum Line<'a> {
     End,
 }
 
-impl Line<'_> {
+impl ReportLine<'_> {
     ghost use Rattle.report_text.specs.Lines.{text_of};
 
     /// Puts the line into the text, in place of what is there.
-    pub fn fill(&self, text: &mut String) -> Result<(), AllocError>
+    pub(crate) fn fill(&self, text: &mut String) -> Result<(), AllocError>
         ensures { OnOk result (string_bytes text.new ≡ text_of self.now) }
     {
         text.clear();
         match self {
-            Line::Opening(version) => writeln!(text, "argo report {version}"),
-            Line::SummaryOpening => text.push_str("argo summary 1\n"),
-            Line::Schedule(runs) => push_schedule(text, runs),
-            Line::Done(done) => push_done(text, done),
-            Line::Domain(version, domain) => push_domain(text, *version, domain),
-            Line::Ring(owner, ring) => push_ring(text, *owner, ring),
-            Line::Message(message) => push_message(text, message),
-            Line::Notice(notice) => push_notice(text, notice),
-            Line::Slots(at, row) => push_slots(text, *at, row),
-            Line::Totals(vcpu, totals) => push_totals(text, *vcpu, totals),
-            Line::End => text.push_str("end\n"),
+            ReportLine::Opening(version) => writeln!(text, "argo report {version}"),
+            ReportLine::SummaryOpening => text.push_str("argo summary 1\n"),
+            ReportLine::Schedule(runs) => push_schedule(text, runs),
+            ReportLine::Done(done) => push_done(text, done),
+            ReportLine::Domain(version, domain) => push_domain(text, *version, domain),
+            ReportLine::Ring(owner, ring) => push_ring(text, *owner, ring),
+            ReportLine::Message(message) => push_message(text, message),
+            ReportLine::Notice(notice) => push_notice(text, notice),
+            ReportLine::Slots(at, row) => push_slots(text, *at, row),
+            ReportLine::Totals(vcpu, totals) => push_totals(text, *vcpu, totals),
+            ReportLine::End => text.push_str("end\n"),
         }
     }
 }

@@ -16,7 +16,8 @@ pub fn reply_text(alloc: Global, r: &Reply) -> Result<Bytes, NoMemory>
     Ok(Bytes::from_vec(text.into_bytes()))
 }
 
-pub fn push_reply(text: &mut String, r: &Reply) -> Result<(), AllocError>
+/// Adds the text of a reply.
+pub(crate) fn push_reply(text: &mut String, r: &Reply) -> Result<(), AllocError>
     ensures { OnOk result (string_bytes text.new ≡ string_bytes text.old ++ reply_bytes r.now) }
 {
     match r {

@@ -7,7 +7,7 @@ ghost use Rattle.report_text.specs.Wrote.{Wrote};
 ghost use Rattle.report_text.specs.Lines.{text_of};
 
 use crate::WriteFault;
-use crate::line::Line;
+use crate::line::ReportLine;
 use argo_base::{DomId, Message};
 use argo_model::{DoneLine, Final, FinalDomain, FinalRing, NoticeLine, Totals};
 use argo_outside::{Sink, write_whole};
@@ -43,21 +43,21 @@ pub fn write_summary<K: Sink>(alloc: Global, out: &mut K, f: &Final) -> Result<(
 fn write_summary_lines<K: Sink>(out: &mut K, text: &mut String, f: &Final) -> Result<(), WriteFault>
     ensures { Wrote K.written K.faults out.old out.new (summary_of f.now) result }
 {
-    write_line(out, text, &Line::SummaryOpening)?;
+    write_line(out, text, &ReportLine::SummaryOpening)?;
     write_closing(out, text, f)
 }
 
 fn write_report_lines<K: Sink>(out: &mut K, text: &mut String, f: &Final) -> Result<(), WriteFault>
     ensures { Wrote K.written K.faults out.old out.new (report_of f.now) result }
 {
-    write_line(out, text, &Line::Opening(f.version))?;
-    write_line(out, text, &Line::Schedule(f.runs.as_slice()))?;
+    write_line(out, text, &ReportLine::Opening(f.version))?;
+    write_line(out, text, &ReportLine::Schedule(f.runs.as_slice()))?;
     write_done(out, text, f.done.as_slice())?;
     write_domains(out, text, f.version, f.domains.as_slice())?;
     write_closing(out, text, f)
 }
 
-fn write_line<K: Sink>(out: &mut K, text: &mut String, line: &Line) -> Result<(), WriteFault>
+fn write_line<K: Sink>(out: &mut K, text: &mut String, line: &ReportLine) -> Result<(), WriteFault>
     ensures { Wrote K.written K.faults out.old out.new (text_of line.now) result }
 {
     line.fill(text)?;
@@ -69,7 +69,7 @@ fn write_done<K: Sink>(out: &mut K, text: &mut String, all: &[DoneLine]) -> Resu
     ensures { Wrote K.written K.faults out.old out.new (flat_map done_line all.now) result }
 {
     for done in all {
-        write_line(out, text, &Line::Done(done))?;
+        write_line(out, text, &ReportLine::Done(done))?;
     }
     Ok(())
 }
@@ -97,7 +97,7 @@ fn write_domain<K: Sink>(
 ) -> Result<(), WriteFault>
     ensures { Wrote K.written K.faults out.old out.new (domain_text version domain.now) result }
 {
-    write_line(out, text, &Line::Domain(version, domain))?;
+    write_line(out, text, &ReportLine::Domain(version, domain))?;
     write_rings(out, text, domain.id, domain.rings.as_slice())
 }
 
@@ -123,7 +123,7 @@ fn write_ring<K: Sink>(
 ) -> Result<(), WriteFault>
     ensures { Wrote K.written K.faults out.old out.new (ring_text owner ring.now) result }
 {
-    write_line(out, text, &Line::Ring(owner, ring))?;
+    write_line(out, text, &ReportLine::Ring(owner, ring))?;
     write_untaken(out, text, ring)?;
     write_notices(out, text, ring.notices.as_slice())?;
     write_slots(out, text, ring.slots.as_slice())
@@ -151,7 +151,7 @@ fn write_messages<K: Sink>(
     ensures { Wrote K.written K.faults out.old out.new (flat_map message_line all.now) result }
 {
     for message in all {
-        write_line(out, text, &Line::Message(message))?;
+        write_line(out, text, &ReportLine::Message(message))?;
     }
     Ok(())
 }
@@ -164,7 +164,7 @@ fn write_notices<K: Sink>(
     ensures { Wrote K.written K.faults out.old out.new (flat_map notice_line all.now) result }
 {
     for notice in all {
-        write_line(out, text, &Line::Notice(notice))?;
+        write_line(out, text, &ReportLine::Notice(notice))?;
     }
     Ok(())
 }
@@ -199,7 +199,7 @@ fn write_row<K: Sink>(
     if is_blank(row) {
         Ok(())
     } else {
-        write_line(out, text, &Line::Slots(at, row))
+        write_line(out, text, &ReportLine::Slots(at, row))
     }
 }
 
@@ -213,14 +213,14 @@ fn write_closing<K: Sink>(out: &mut K, text: &mut String, f: &Final) -> Result<(
     ensures { Wrote K.written K.faults out.old out.new (closing_text f.now) result }
 {
     write_totals(out, text, f.totals.as_slice())?;
-    write_line(out, text, &Line::End)
+    write_line(out, text, &ReportLine::End)
 }
 
 fn write_totals<K: Sink>(out: &mut K, text: &mut String, all: &[Totals]) -> Result<(), WriteFault>
     ensures { Wrote K.written K.faults out.old out.new (totals_lines all.now) result }
 {
     for (vcpu, totals) in all.iter().enumerate() {
-        write_line(out, text, &Line::Totals(vcpu, totals))?;
+        write_line(out, text, &ReportLine::Totals(vcpu, totals))?;
     }
     Ok(())
 }

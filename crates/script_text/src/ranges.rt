@@ -1,5 +1,6 @@
 ghost use Rattle.std.specs.Prelude.{◌≡◌};
-ghost use Rattle.argo_model.specs.Script.{is_domain_id, is_page_count, is_short, is_turn_count, is_ring_length, is_generation, has_domain};
+ghost use Rattle.argo_base.specs.Slots.{is_legal};
+ghost use Rattle.argo_model.specs.Script.{is_domain_id, is_page_count, is_short, is_turn_count, is_generation, has_domain};
 
 use argo_base::DomId;
 use argo_model::DomainLines;
@@ -29,7 +30,7 @@ pub(crate) fn is_turn_count(turns: u64) -> bool
 }
 
 pub(crate) fn is_ring_length(len: u64) -> bool
-    ensures { result ≡ is_ring_length len }
+    ensures { result ≡ is_legal len }
 {
     48 <= len && len <= 0x100_0000 && len % 16 == 0
 }

@@ -45,6 +45,6 @@ pub record ArePicks (script : Script) (seed : ℕ) (schedule : List ℕ) : Type 
 abbrev pub IsRunByPicks : Script → ℕ → Final → Type 0
 IsRunByPicks script seed shown = (schedule : List ℕ) × ArePicks script seed schedule × (shown ≡ final_of script schedule)
 
--- a script has one schedule of picks for a seed
+-- a script has at most one schedule of picks for a seed
 abbrev pub PicksAreUnique : Type 0
 PicksAreUnique = (script : Script) (seed : ℕ) (one other : List ℕ) → ArePicks script seed one → ArePicks script seed other → one ≡ other

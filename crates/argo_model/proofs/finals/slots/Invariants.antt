@@ -1,5 +1,5 @@
 use Rattle.std.proofs.Common.{◌≡◌, take}
-use Rattle.argo_model.specs.Final.{ring_bytes}
+use Rattle.argo_model.specs.RingBytes.{ring_bytes}
 use Rattle.argo_model.proofs.finals.slots.Given as goal
 
 abbrev pub invariant-loop-page : goal.invariant-loop-page

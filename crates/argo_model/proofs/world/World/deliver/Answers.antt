@@ -5,7 +5,7 @@ use Rattle.argo_base.specs.declared.errno.Errno.TheVariants.{ConnRefused}
 use Rattle.argo_model.specs.declared.action.Outcome.TheVariants.{Refused}
 use Rattle.argo_model.specs.State.{domain_of, set_domain}
 use Rattle.argo_model.specs.Told.{told}
-use Rattle.argo_model.specs.Caller.{caller_of}
+use Rattle.argo_model.specs.Caller.{living_caller}
 use Rattle.argo_model.specs.Sound.{IsSoundWorld, IsYoungWorld, is_sound_domain, is_young_domain}
 use Rattle.argo_model.proofs.SoundLaws.{found_passes, set_passes}
 use Rattle.argo_model.proofs.WorldLaws.{set_domain-same}
@@ -15,7 +15,7 @@ use Rattle.argo_model.proofs.world.World.deliver.Goals as goal
 pub returns-in_default-get_mut-clause-ok : goal.returns-in_default-get_mut-clause-ok
 returns-in_default-get_mut-clause-ok c =
     let s = c.args.self.now in
-    let lives : caller_of s c.args.dom c.args.generation ≡ Some c.in-Some.caller.now = sym c.caller.ensures ∙ ap option_copied c.in-Some.is in
+    let lives : living_caller s c.args.dom c.args.generation ≡ Some c.in-Some.caller.now = sym c.caller.ensures ∙ ap option_copied c.in-Some.is in
     let none : domain_of s c.args.to ≡ None = ap (λ s. domain_of s c.args.to) (sym c.self.view_is) ∙ sym c.get_mut.ensures.value ∙ ap option_copied_mut c.in_default-get_mut.is in
     let same : c.get_mut.follows.lender-at-none.entries ≡ s = ap (λ m. m.entries) c.get_mut.follows.holds-at-none ∙ c.self.view_is in
     sends_nowhere s c.args.dom c.args.generation c.args.port c.args.to c.args.to_port c.args.kind c.args.load c.in-Some.caller.now lives
@@ -34,7 +34,7 @@ returns-clause-ok c =
     let s = c.args.self.now in
     let old = c.in-Some-get_mut.receiver.now in
     let new = c.offer.new.self in
-    let lives : caller_of s c.args.dom c.args.generation ≡ Some c.in-Some.caller.now = sym c.caller.ensures ∙ ap option_copied c.in-Some.is in
+    let lives : living_caller s c.args.dom c.args.generation ≡ Some c.in-Some.caller.now = sym c.caller.ensures ∙ ap option_copied c.in-Some.is in
     let there : domain_of s c.args.to ≡ Some old =
     ap (λ s. domain_of s c.args.to) (sym c.self.view_is) ∙ sym c.get_mut.ensures.value ∙ ap option_copied_mut c.in-Some-get_mut.is in
     let changed = (c.get_mut.follows.holds new).0 ∙ ap (λ s. set_domain s c.args.to new) c.self.view_is in

@@ -1,0 +1,5 @@
+use Rattle.argo_model.proofs.WorkedDeeds.{notice_is_served}
+use Rattle.argo_model.proofs.examples.notice_is_served.Goals as goal
+
+pub returns : goal.returns
+returns c = notice_is_served

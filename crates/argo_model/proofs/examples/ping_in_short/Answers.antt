@@ -1,0 +1,5 @@
+use Rattle.argo_model.proofs.WorkedDeeds.{ping_in_short}
+use Rattle.argo_model.proofs.examples.ping_in_short.Goals as goal
+
+pub returns : goal.returns
+returns c = ping_in_short
