@@ -1,13 +1,13 @@
 //! Worked examples: what the machine does with some scripts, to the last byte of their reports, and what its parts come to.
 
-ghost use Rattle.argo_model.specs.ExamplesDeeds.{NoticeIsServed, PingAndPongHasCauses, PingAndPongIsPossible, PingAndPongIsTaken, PingInShort};
-ghost use Rattle.argo_model.specs.ExamplesEnds.{DestroyedBetweenGatherAndDelivery, ResetAndCreate};
-ghost use Rattle.argo_model.specs.ExamplesIovs.{GatheredIovs, PiecesOfRanges, Verdicts};
-ghost use Rattle.argo_model.specs.ExamplesMemory.{StoreAcrossPages};
-ghost use Rattle.argo_model.specs.ExamplesMessages.{SecondBodyGetsANotice};
-ghost use Rattle.argo_model.specs.ExamplesOwnSlots.{SendOutOfOwnSlots};
-ghost use Rattle.argo_model.specs.ExamplesPuts.{GuestPuts, ProperMoves, RxWords, Starts, StartsInMemory, Touches};
-ghost use Rattle.argo_model.specs.ExamplesTalk.{PingAndPong, WrappedBody};
+ghost use Rattle.argo_model.specs.Examples.Laws.{NoticeIsServed, PingAndPongHasCauses, PingAndPongIsPossible, PingAndPongIsTaken, PingInShort};
+ghost use Rattle.argo_model.specs.Examples.Ends.{DestroyedBetweenGatherAndDelivery, ResetAndCreate};
+ghost use Rattle.argo_model.specs.Examples.Iovs.{GatheredIovs, PiecesOfRanges, Verdicts};
+ghost use Rattle.argo_model.specs.Examples.Memory.{StoreAcrossPages};
+ghost use Rattle.argo_model.specs.Examples.Messages.{SecondBodyGetsANotice};
+ghost use Rattle.argo_model.specs.Examples.OwnSlots.{SendOutOfOwnSlots};
+ghost use Rattle.argo_model.specs.Examples.Puts.{GuestPuts, ProperMoves, RxWords, Starts, StartsInMemory, Touches};
+ghost use Rattle.argo_model.specs.Examples.Talk.{PingAndPong, WrappedBody};
 
 /// A ring of 48 slot bytes takes one body of 16. The second body finds no room: -11, and the sender is noted.
 pub fn second_body_gets_a_notice()

@@ -28,12 +28,12 @@ pub struct Part {
 }
 
 impl Model for Part {
-    ghost use Rattle.argo_model.specs.Script.{Section};
+    ghost use Rattle.argo_model.specs.Runs.Script.{Section};
 
     ghost Value = { Section };
 
     ghost use Rattle.std.specs.Prelude.{IsTrue};
-    ghost use Rattle.argo_model.specs.Script.{is_lawful_section};
+    ghost use Rattle.argo_model.specs.Runs.Script.{is_lawful_section};
 
     ghost view = { λ p. record { actor = p.actor; lines = p.lines } };
 
@@ -53,12 +53,12 @@ pub struct Scripts {
 }
 
 impl Model for Scripts {
-    ghost use Rattle.argo_model.specs.Script.{Script};
+    ghost use Rattle.argo_model.specs.Runs.Script.{Script};
 
     ghost Value = { Script };
 
     ghost use Rattle.std.specs.Prelude.{IsTrue};
-    ghost use Rattle.argo_model.specs.Script.{is_lawful};
+    ghost use Rattle.argo_model.specs.Runs.Script.{is_lawful};
 
     ghost view = { λ s. record { version = s.version; domains = s.domains; sections = s.parts } };
 

@@ -1,4 +1,4 @@
-use Rattle.argo_model.proofs.WorkedIovs.{gathered_iovs}
+use Rattle.argo_model.proofs.Worked.Iovs.{gathered_iovs}
 use Rattle.argo_model.proofs.examples.gathered_iovs.Goals as goal
 
 pub returns : goal.returns

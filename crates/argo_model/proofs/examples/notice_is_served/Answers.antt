@@ -1,4 +1,4 @@
-use Rattle.argo_model.proofs.WorkedDeeds.{notice_is_served}
+use Rattle.argo_model.proofs.Worked.Laws.{notice_is_served}
 use Rattle.argo_model.proofs.examples.notice_is_served.Goals as goal
 
 pub returns : goal.returns

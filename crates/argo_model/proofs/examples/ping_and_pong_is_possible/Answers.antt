@@ -1,4 +1,4 @@
-use Rattle.argo_model.proofs.WorkedDeeds.{ping_and_pong_is_possible}
+use Rattle.argo_model.proofs.Worked.Laws.{ping_and_pong_is_possible}
 use Rattle.argo_model.proofs.examples.ping_and_pong_is_possible.Goals as goal
 
 pub returns : goal.returns

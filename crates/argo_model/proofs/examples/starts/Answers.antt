@@ -1,4 +1,4 @@
-use Rattle.argo_model.proofs.WorkedPuts.{starts}
+use Rattle.argo_model.proofs.Worked.Puts.{starts}
 use Rattle.argo_model.proofs.examples.starts.Goals as goal
 
 pub returns : goal.returns

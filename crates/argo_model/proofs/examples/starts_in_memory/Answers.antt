@@ -1,4 +1,4 @@
-use Rattle.argo_model.proofs.WorkedPuts.{starts_in_memory}
+use Rattle.argo_model.proofs.Worked.Puts.{starts_in_memory}
 use Rattle.argo_model.proofs.examples.starts_in_memory.Goals as goal
 
 pub returns : goal.returns

@@ -1,4 +1,4 @@
-use Rattle.argo_model.proofs.WorkedPuts.{touches}
+use Rattle.argo_model.proofs.Worked.Puts.{touches}
 use Rattle.argo_model.proofs.examples.touches.Goals as goal
 
 pub returns : goal.returns

@@ -1,4 +1,4 @@
-use Rattle.argo_model.proofs.WorkedIovs.{verdicts}
+use Rattle.argo_model.proofs.Worked.Iovs.{verdicts}
 use Rattle.argo_model.proofs.examples.verdicts.Goals as goal
 
 pub returns : goal.returns

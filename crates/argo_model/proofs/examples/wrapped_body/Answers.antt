@@ -1,4 +1,4 @@
-use Rattle.argo_model.proofs.WorkedTalk.{wrapped_body}
+use Rattle.argo_model.proofs.Worked.Talk.{wrapped_body}
 use Rattle.argo_model.proofs.examples.wrapped_body.Goals as goal
 
 pub returns : goal.returns

@@ -1,7 +1,0 @@
-use Rattle.std.proofs.Common.{◌≡◌, take}
-use Rattle.argo_model.specs.Replies.{heard_among}
-use Rattle.argo_model.proofs.replies.heard_of_one.Given as goal
-
--- what is heard of the lines so far
-abbrev pub invariant-loop-i : goal.invariant-loop-i
-invariant-loop-i l = l.heard ≡ heard_among (take l.i l.done) (take l.i l.steps) l.v

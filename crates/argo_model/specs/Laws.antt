@@ -1,0 +1,6 @@
+pub mod Flags
+pub mod NoticeEnds
+pub mod RingNames
+pub mod SendCauses
+pub mod Taken
+pub mod Transitions
