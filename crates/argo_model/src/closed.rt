@@ -1,5 +1,5 @@
 use crate::{NoticeLines, Reply};
-use argo_base::{Bytes, DomId, Items, MessageList, PageList, RingKey};
+use argo_base::{Bytes, DomId, Items, Messages, PageList, RingKey};
 
 /// A ring as it stands, with its serial and its pages, which no report shows.
 #[derive(Debug, Drop)]
@@ -9,7 +9,7 @@ pub struct ClosedRing {
     pub len: u32,
     pub tx: u32,
     pub clean: bool,
-    pub untaken: MessageList,
+    pub untaken: Messages,
     pub notices: NoticeLines,
     pub pages: PageList,
 }

@@ -7,7 +7,7 @@ use crate::{
     ClosedDomain, ClosedDomains, ClosedRing, ClosedRings, Domain, NoticeLine, NoticeLines,
     NoticeMap, Ring, RingMap,
 };
-use argo_base::{Bytes, DomId, Message, MessageList, NoMemory, PageList, RingKey};
+use argo_base::{Bytes, DomId, Message, Messages, NoMemory, PageList, RingKey};
 use std::alloc::Global;
 
 impl World {
@@ -84,10 +84,10 @@ fn notices_of(alloc: Global, notices: &NoticeMap) -> Result<NoticeLines, NoMemor
     Ok(lines)
 }
 
-fn copy_of_messages(alloc: Global, messages: &[Message]) -> Result<MessageList, NoMemory>
+fn copy_of_messages(alloc: Global, messages: &[Message]) -> Result<Messages, NoMemory>
     ensures { IfOk result (λ copies. copies ≡ messages.now) }
 {
-    let mut copies = MessageList::new(alloc);
+    let mut copies = Messages::new(alloc);
     for message in messages {
         copies.push(copy_of_message(alloc, message)?)?;
     }

@@ -1,4 +1,4 @@
-use argo_base::{Bytes, DomId, MessageList, PageList, RingKey};
+use argo_base::{Bytes, DomId, Messages, PageList, RingKey};
 use std::alloc::Global;
 use std::collections::BTreeMap;
 use std::marker::Model;
@@ -16,7 +16,7 @@ pub struct Ring {
     pub tx: u32,
     pub clean: bool,
     /// The accepted messages that were not taken yet, oldest first; none where the ring is dirty.
-    pub untaken: MessageList,
+    pub untaken: Messages,
     pub notices: NoticeMap,
 }
 
