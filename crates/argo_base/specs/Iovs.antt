@@ -4,7 +4,7 @@ use Rattle.std.specs.List.{range_with_len}
 use Rattle.argo_base.specs.declared.errno.Errno.{Errno}
 use Rattle.argo_base.specs.declared.errno.Errno.TheVariants.{Inval, MsgSize}
 use Rattle.argo_base.specs.declared.piece.Piece.{Piece}
-use Rattle.argo_base.specs.Limits.{longest_body}
+pub use Rattle.argo_base.specs.Limits.{longest_body}
 use Rattle.argo_base.specs.Layout.{u32_at, u64_at}
 use Rattle.argo_base.specs.Pieces.{pieces}
 

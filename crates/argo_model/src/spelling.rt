@@ -1,7 +1,7 @@
 ghost use Rattle.std.specs.Prelude.{◌≡◌, ◌+◌, ◌*◌, ◌/◌, ◌≤◌, IsTrue, length};
 ghost use Rattle.argo_base.specs.Layout.{addr_bytes, message_head_bytes};
 ghost use Rattle.argo_base.specs.Slots.{is_legal, is_place};
-ghost use Rattle.argo_base.specs.Limits.{longest_body};
+ghost use Rattle.argo_base.specs.Iovs.{longest_body};
 ghost use Rattle.argo_model.specs.Message.{spell, room_of};
 ghost use Rattle.argo_model.specs.RingBytes.{write_slots};
 ghost use Rattle.argo_model.specs.Sound.{are_there};

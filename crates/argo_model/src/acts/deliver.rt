@@ -1,5 +1,5 @@
 ghost use Rattle.std.specs.Prelude.{◌≡◌, ℕ, ◌/◌, ◌≤◌, IfOk, OnOk, OnErr, IsTrue, length};
-ghost use Rattle.argo_base.specs.Limits.{longest_body};
+ghost use Rattle.argo_base.specs.Iovs.{longest_body};
 ghost use Rattle.argo_base.specs.Slots.{is_place};
 ghost use Rattle.argo_model.specs.Act.{act};
 ghost use Rattle.argo_model.specs.Message as messages;
