@@ -4,6 +4,7 @@ use Rattle.std.specs.List.{range_with_len}
 use Rattle.argo_base.specs.declared.errno.Errno.{Errno}
 use Rattle.argo_base.specs.declared.errno.Errno.TheVariants.{Inval, MsgSize}
 use Rattle.argo_base.specs.declared.piece.Piece.{Piece}
+pub use Rattle.argo_base.specs.Limits.{longest_body}
 use Rattle.argo_base.specs.Layout.{u32_at, u64_at}
 use Rattle.argo_base.specs.Pieces.{pieces}
 
@@ -19,10 +20,6 @@ iov_at bytes i = record { hnd = u64_at bytes (16 * i); len = u32_at bytes (16 * 
 
 abbrev pub iovs_at : List ℕ → ℕ → List Iov
 iovs_at bytes count = map (iov_at bytes) (range_with_len 0 count)
-
--- the longest body
-abbrev pub longest_body : ℕ
-longest_body = 0xFFFFE0
 
 -- an iov whose pad is not 0, or which alone is longer than any body
 abbrev pub is_bad_iov : Iov → Bool

@@ -1,8 +1,11 @@
 pub mod Errno
 pub mod Iovs
 pub mod Layout
+pub mod Limits
 pub mod Match
+pub mod MessageList
 pub mod Messages
+pub mod Notices
 pub mod Pieces
 pub mod Rounds
 pub mod Slots

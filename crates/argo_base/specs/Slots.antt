@@ -1,25 +1,26 @@
 -- The arithmetic of a ring's slot bytes. A ring of `len` slot bytes has the places 0 to len - 1, and they go round.
 use Rattle.std.specs.Prelude.{ℕ, ◌+◌, ◌-◌, ◌*◌, ◌/◌, ◌%◌, Bool, ◌&&◌, ◌==◌, nat_lt, nat_le, if◌then◌else◌}
+use Rattle.argo_base.specs.Limits.{page_bytes, header_bytes, slot_bytes, least_ring, greatest_ring}
 
 -- the least multiple of 16 that is not below n
 abbrev pub up : ℕ → ℕ
-up n = (n + 15) / 16 * 16
+up n = (n + 15) / slot_bytes * slot_bytes
 
 -- the slot bytes that a message with a body of n bytes takes: its header, and the body with its padding
 abbrev pub room : ℕ → ℕ
-room n = 16 + up n
+room n = slot_bytes + up n
 
--- a ring has 48 to 0x1000000 slot bytes, a multiple of 16
+-- a ring has `least_ring` to `greatest_ring` slot bytes, a multiple of 16
 abbrev pub is_legal : ℕ → Bool
-is_legal len = nat_le 48 len && nat_le len 0x1000000 && (len % 16 == 0)
+is_legal len = nat_le least_ring len && nat_le len greatest_ring && (len % slot_bytes == 0)
 
--- the pages that hold 64 bytes of header and the slots
+-- the pages that hold the header and the slots
 abbrev pub page_count : ℕ → ℕ
-page_count len = (len + 64 + 4095) / 4096
+page_count len = (len + header_bytes + 4095) / page_bytes
 
 -- a place at which a message can begin: a multiple of 16 below the length
 abbrev pub is_place : ℕ → ℕ → Bool
-is_place len at = (at % 16 == 0) && nat_lt at len
+is_place len at = (at % slot_bytes == 0) && nat_lt at len
 
 -- so many bytes after a place, round the ring's end
 abbrev pub place_after : ℕ → ℕ → ℕ → ℕ

@@ -1,9 +1,13 @@
+//! Numbers of domains.
+ghost use Rattle.std.specs.Prelude.{◌≡◌};
+ghost use Rattle.argo_base.specs.Match.{is_wildcard};
+
 use std::marker::Model;
 
 /// The number of a domain, or `ANY`. Contracts see it as that number.
 ///
-/// Domains have ids below 0x7FF0, as `DOMID_FIRST_RESERVED` of Xen says; whoever reads an id from a guest may find any 16 bits.
-#[derive(Clone, Copy, Debug, PartialEq, Eq, PartialOrd, Ord, Hash)]
+/// Its default is 0, which the unused places of a list of fixed capacity hold. Domains have ids below 0x7FF0, as `DOMID_FIRST_RESERVED` of Xen says; whoever reads an id from a guest may find any 16 bits.
+#[derive(Clone, Copy, Debug, Default, PartialEq, Eq, PartialOrd, Ord, Hash)]
 pub struct DomId(pub u16);
 
 impl Model for DomId {
@@ -19,4 +23,11 @@ impl Model for DomId {
 impl DomId {
     /// The wildcard partner of a ring that takes messages from every domain: `XEN_ARGO_DOMID_ANY`.
     pub const ANY: DomId = DomId(0x7FF4);
+
+    /// Whether it is `ANY`, the rules' wildcard.
+    pub fn is_any(self) -> bool
+        ensures { result ≡ is_wildcard self }
+    {
+        self == DomId::ANY
+    }
 }

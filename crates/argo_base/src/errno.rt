@@ -1,3 +1,4 @@
+//! Why a hypercall was refused.
 ghost use Rattle.std.specs.Prelude.{◌≡◌, pos};
 ghost use Rattle.argo_base.specs.Errno.{number_of};
 

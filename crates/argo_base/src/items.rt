@@ -1,3 +1,4 @@
+//! Lists that grow, which contracts see as lists.
 ghost use Rattle.std.specs.Prelude.{◌≡◌, ◌+◌, ◌<◌, ◌≤◌, ◌↔◌, List, [], ◌∷◌, ◌++◌, length, drop, IsTrue, Some, slice_get, IfOk, OnOk, OnErr};
 ghost use Rattle.argo_base.specs.Splice.{splice};
 

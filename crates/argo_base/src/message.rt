@@ -1,3 +1,4 @@
+//! Messages as a receiver takes them.
 use crate::{Bytes, DomId, Items};
 
 /// A message as its receiver takes it: the true domain of the sender, the port that the sender named, the type and the body.
@@ -9,5 +10,5 @@ pub struct Message {
     pub body: Bytes,
 }
 
-/// Messages, the oldest first.
-pub type MessageList = Items<Message>;
+/// Messages as a report shows them, the oldest first.
+pub type Messages = Items<Message>;

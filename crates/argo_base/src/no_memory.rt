@@ -1,3 +1,4 @@
+//! The answer where memory ran out.
 ghost use Rattle.std.specs.Prelude.{Some};
 ghost use Rattle.argo_base.specs.Messages.{no_memory_text};
 

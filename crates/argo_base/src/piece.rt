@@ -1,6 +1,4 @@
-/// The bytes of a page.
-pub const PAGE_BYTES: u32 = 4096;
-
+//! Parts of ranges of guest memory.
 /// A part of a range of guest memory that lies inside one page: `n` bytes from offset `off` of that page.
 #[derive(Clone, Copy, Debug, PartialEq, Eq)]
 pub struct Piece {

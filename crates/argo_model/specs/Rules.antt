@@ -1,3 +1,4 @@
+pub mod Access
 pub mod Act
 pub mod Deliver
 pub mod Destroy
@@ -7,7 +8,6 @@ pub mod Holds
 pub mod Limits
 pub mod Matches
 pub mod Messages
-pub mod Notices
 pub mod Outcomes
 pub mod Possible
 pub mod Puts

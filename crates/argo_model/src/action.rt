@@ -1,3 +1,5 @@
+//! What sections do, one step at a time, and what comes of it.
+
 use argo_base::{Bytes, DomId, Errno, PageList};
 
 /// What a sender's body came to when it was gathered.

@@ -1,5 +1,7 @@
+//! A run as it stands: its domains with all that they hold, and the replies of each section with their steps.
+
 use crate::{NoticeLines, Reply};
-use argo_base::{Bytes, DomId, Items, MessageList, PageList, RingKey};
+use argo_base::{Bytes, DomId, Items, Messages, PageList, RingKey};
 
 /// A ring as it stands, with its serial and its pages, which no report shows.
 #[derive(Debug, Drop)]
@@ -9,7 +11,7 @@ pub struct ClosedRing {
     pub len: u32,
     pub tx: u32,
     pub clean: bool,
-    pub untaken: MessageList,
+    pub untaken: Messages,
     pub notices: NoticeLines,
     pub pages: PageList,
 }

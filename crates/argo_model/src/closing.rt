@@ -1,5 +1,7 @@
+//! What a report shows of a run.
+
 use crate::Reply;
-use argo_base::{Bytes, DomId, Items, MessageList, RingKey};
+use argo_base::{Bytes, DomId, Items, Messages, RingKey};
 
 /// So many steps of one section, one after another.
 #[derive(Clone, Copy, Debug, PartialEq, Eq)]
@@ -50,7 +52,7 @@ pub struct FinalRing {
     pub len: u32,
     pub tx: u32,
     pub clean: bool,
-    pub untaken: MessageList,
+    pub untaken: Messages,
     pub notices: NoticeLines,
     pub slots: Bytes,
 }

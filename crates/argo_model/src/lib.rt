@@ -5,6 +5,7 @@
 //! rule's. It stands on argo_base.
 #![tactic(auto)]
 
+mod access;
 mod action;
 mod closed;
 mod closing;
@@ -12,7 +13,9 @@ pub mod examples;
 mod line;
 mod reply;
 mod scripts;
+mod short;
 
+pub use access::Access;
 pub use action::{Action, Answer, Load, Outcome};
 pub use closed::{
     ClosedDomain, ClosedDomains, ClosedRing, ClosedRings, Heard, HeardLine, HeardLines,
@@ -24,3 +27,4 @@ pub use closing::{
 pub use line::{Line, Lines};
 pub use reply::Reply;
 pub use scripts::{Actor, DomainLine, DomainLines, Part, Parts, Scripts};
+pub use short::Short;

@@ -1,3 +1,5 @@
+//! The lines of scripts.
+
 use argo_base::{Bytes, DomId, Items};
 
 /// A line of a section. Guest addresses are whole numbers: address `a` lies in page `a / 4096` of the caller.

@@ -1,3 +1,5 @@
+//! What the lines come to.
+
 use argo_base::{Bytes, DomId};
 
 /// What a line of a script came to.

@@ -1,3 +1,5 @@
+//! Scripts: domains, and sections of lines.
+
 use crate::Lines;
 use argo_base::{DomId, Items};
 use std::marker::Model;

@@ -1,7 +1,7 @@
 -- Names of rings that hold through a whole run.
 use Rattle.std.specs.Prelude.{ℕ, Bool, ◌&&◌, ◌==◌, find, Option, option_map, option_and_then}
 use Rattle.argo_model.specs.Rules.State.{Domain, Live, State, domain_of, life_in}
-use Rattle.argo_model.specs.Rules.Notices.{size_of}
+use Rattle.argo_base.specs.Notices.{size_of}
 use Rattle.argo_model.specs.Rules.Matches.{RingAt}
 
 -- a ring's name: its owner in one of the owner's generations, and its serial there, which no other ring ever has

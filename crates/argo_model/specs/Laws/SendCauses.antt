@@ -13,7 +13,7 @@ use Rattle.argo_base.specs.Iovs.{Iov, iovs_at, verdict_of, gathered_pieces}
 use Rattle.argo_model.specs.declared.reply.Reply.{Reply}
 use Rattle.argo_model.specs.declared.reply.Reply.TheVariants.{Number, Gone}
 use Rattle.argo_model.specs.Rules.State.{Live, State, live_of, is_alive, is_on, has_page}
-use Rattle.argo_model.specs.Rules.Notices.{is_busy}
+use Rattle.argo_base.specs.Notices.{is_busy}
 use Rattle.argo_model.specs.Rules.RingBytes.{free}
 use Rattle.argo_model.specs.Rules.Matches.{RingAt, match_at, paged_at}
 use Rattle.argo_model.specs.Programs.Send.{is_send_addr, is_own_source}

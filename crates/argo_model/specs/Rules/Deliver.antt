@@ -9,10 +9,10 @@ use Rattle.argo_model.specs.declared.action.Load.{Load}
 use Rattle.argo_model.specs.declared.action.Load.TheVariants.{Body, Faulted, Refused as RefusedLoad}
 use Rattle.argo_model.specs.declared.action.Outcome.TheVariants.{Accepted, Refused}
 use Rattle.argo_model.specs.Rules.State.{State, Domain, Live, Ring, domain_of, is_alive}
-use Rattle.argo_model.specs.Rules.Notices.{is_busy, noted}
+use Rattle.argo_base.specs.Notices.{is_busy, noted}
 use Rattle.argo_model.specs.Rules.Effects.{Change, Effect, refused, leaving, refuse_if, lifted, change_in}
 use Rattle.argo_model.specs.Rules.Messages.{spell, room_of}
-use Rattle.argo_model.specs.Rules.RingBytes.{PagedRing, paged, set_paged, free, write_slots, write_tx}
+use Rattle.argo_model.specs.Rules.RingBytes.{PagedRing, paged, set_paged, with_notices, free, write_slots, write_tx}
 
 -- what a sender offers: its domain, the port that it named, the type, and what was gathered
 pub record Offer : Type 0 where
@@ -43,7 +43,7 @@ with_message p m = record { ring = ring_with p.ring m; own = bytes_with p m }
 
 -- the sender's notice for a body of n bytes is set or raised
 abbrev pub with_notice : ℕ → ℕ → PagedRing → PagedRing
-with_notice sender n p = record p { ring = record p.ring { notices = noted p.ring.notices sender n } }
+with_notice sender n p = with_notices p (noted p.ring.notices sender n)
 
 abbrev pub accepted : PagedRing → ℕ → Message → Change PagedRing
 accepted p owner m = record { outcome = Accepted (length m.body); left = Some (with_message p m); signals = owner ∷ [] }

@@ -6,7 +6,7 @@ use Rattle.argo_base.specs.declared.ring_key.RingKey.{RingKey}
 use Rattle.argo_model.specs.declared.action.Outcome.TheVariants.{Done}
 use Rattle.argo_model.specs.Rules.State.{State, Domain, Live, Ring, domain_of, change_domain, change_life, is_alive, fresh_live}
 use Rattle.argo_model.specs.Rules.Effects.{Change, Effect, answered, leaving, refuse_if, after}
-use Rattle.argo_model.specs.Rules.Notices.{withdrawn}
+use Rattle.argo_base.specs.Notices.{withdrawn}
 
 -- a ring without a domain's notice
 abbrev pub ring_without : ℕ → Ring → Ring

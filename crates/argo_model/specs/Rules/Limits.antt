@@ -5,10 +5,6 @@ use Rattle.std.specs.Prelude.{ℕ}
 abbrev pub most_rings : ℕ
 most_rings = 128
 
--- the notices on a ring
-abbrev pub most_notices : ℕ
-most_notices = 32
-
 -- the entries of a notify
 abbrev pub most_entries : ℕ
 most_entries = 256

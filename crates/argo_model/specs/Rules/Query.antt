@@ -7,10 +7,9 @@ use Rattle.argo_base.specs.Match.{is_wildcard, match_of}
 use Rattle.argo_model.specs.declared.action.Answer.{Answer}
 use Rattle.argo_model.specs.declared.action.Outcome.TheVariants.{Answer as Answered}
 use Rattle.argo_model.specs.Rules.State.{State, Domain, Live, Ring, domain_of}
-use Rattle.argo_model.specs.Rules.Notices.{Notices, is_busy, noted, withdrawn}
+use Rattle.argo_base.specs.Notices.{Notices, is_busy, noted, withdrawn}
 use Rattle.argo_model.specs.Rules.Effects.{Change, Effect, answered, leaving, refuse_if, lifted, change_in}
-use Rattle.argo_model.specs.Rules.RingBytes.{PagedRing, paged, set_paged, free, is_empty}
-use Rattle.argo_model.specs.Rules.Sweep.{with_notices}
+use Rattle.argo_model.specs.Rules.RingBytes.{PagedRing, paged, set_paged, with_notices, free, is_empty}
 
 -- the flags of an answer
 abbrev pub exists_flag : ℕ

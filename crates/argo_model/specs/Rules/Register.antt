@@ -6,12 +6,11 @@ use Rattle.std.specs.Map.{lookup, remove_entry}
 use Rattle.std.specs.BTreeMap.{is_at, insert_entry}
 use Rattle.argo_base.specs.declared.errno.Errno.TheVariants.{Srch, NoEnt, NoDev, ConnRefused, Exist, NoSpc, Inval}
 use Rattle.argo_base.specs.declared.ring_key.RingKey.{RingKey}
-use Rattle.argo_base.specs.Slots.{is_too_big}
 use Rattle.argo_base.specs.Match.{is_wildcard, key_cmp}
 use Rattle.argo_model.specs.declared.action.Outcome.TheVariants.{Done}
 use Rattle.argo_model.specs.Rules.State.{State, Domain, Live, Ring, is_alive, is_on, has_page}
 use Rattle.argo_model.specs.Rules.Limits.{most_rings}
-use Rattle.argo_model.specs.Rules.Notices.{Notices, waiting}
+use Rattle.argo_base.specs.Notices.{Notices, never_fits, doms_of}
 use Rattle.argo_model.specs.Rules.Effects.{Change, Effect, answered, refused, leaving, refuse_if, lifted, change_in}
 use Rattle.argo_model.specs.Rules.RingBytes.{PagedRing, paged, laid, set_paged}
 use Rattle.argo_model.specs.Rules.Starts.{started}
@@ -41,12 +40,9 @@ is_free_for live key page =
 abbrev pub are_free_for : Live → RingKey → List ℕ → Bool
 are_free_for live key pages = list_all (is_free_for live key) pages && all_differ pages
 
--- the notices that can still fit into a ring of this length, and those that cannot
+-- a notice that can still fit into a ring of this length
 abbrev pub can_fit : ℕ → ℕ × ℕ → Bool
-can_fit len n = not (is_too_big len n.1)
-
-abbrev pub cannot_fit : ℕ → ℕ × ℕ → Bool
-cannot_fit len n = is_too_big len n.1
+can_fit len n = not (never_fits len n)
 
 -- a ring of this length on these pages, with its serial and the notices that can still fit
 abbrev pub resized : Ring → ℕ → List ℕ → Ring
@@ -54,7 +50,7 @@ resized r len pages = record r { len = len; pages = pages; notices = filter (can
 
 -- the ring starts on its new pages, and the domains whose notices are too big for it are signalled
 abbrev pub restart : PagedRing → Notices → ℕ → Change PagedRing
-restart p old len = record { outcome = Done; left = Some (started p); signals = waiting (filter (cannot_fit len) old) }
+restart p old len = record { outcome = Done; left = Some (started p); signals = doms_of (filter (never_fits len) old) }
 
 abbrev pub register_anew : Live → RingKey → Ring → ℕ → List ℕ → Change Live
 register_anew live key r len pages =

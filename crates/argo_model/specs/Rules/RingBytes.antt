@@ -7,6 +7,7 @@ use Rattle.std.specs.BTreeMap.{is_at}
 use Rattle.argo_base.specs.declared.ring_key.RingKey.{RingKey}
 use Rattle.argo_base.specs.Layout.{u32_at, u32_bytes}
 use Rattle.argo_base.specs.Match.{key_cmp}
+use Rattle.argo_base.specs.Notices.{Notices}
 use Rattle.argo_base.specs.Slots.{sanitised, span}
 use Rattle.argo_base.specs.Splice.{splice}
 use Rattle.argo_model.specs.Rules.State.{Ring, Live}
@@ -33,6 +34,10 @@ paged memory r = record { ring = r; own = ring_bytes memory r.pages }
 abbrev pub set_paged : Live → RingKey → PagedRing → Live
 set_paged live key p =
     record live { bytes = laid p.ring.pages p.own live.bytes; rings = set_value (is_at (key_cmp key)) live.rings p.ring }
+
+-- a ring with these notices alone
+abbrev pub with_notices : PagedRing → Notices → PagedRing
+with_notices p notices = record p { ring = record p.ring { notices = notices } }
 
 -- the word by which the receiver says how far it has read
 abbrev pub rx_word : List ℕ → ℕ

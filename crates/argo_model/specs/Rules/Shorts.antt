@@ -1,13 +1,9 @@
 -- An outcome as two numbers: which outcome it is, and the number that it has.
 use Rattle.std.specs.Prelude.{ℕ, if◌then◌else◌, length}
 use Rattle.argo_base.specs.Errno.{number_of}
+use Rattle.argo_model.specs.declared.short.Short.{Short}
 use Rattle.argo_model.specs.declared.action.Outcome.{Outcome}
 use Rattle.argo_model.specs.declared.action.Outcome.TheVariants.{Done, Bytes, Fault, Refused, Accepted, Swept, NoMore, Answer, Flag, Gone}
-
--- a tag and a value
-pub record Short : Type 0 where
-  pub tag : ℕ
-  pub value : ℕ
 
 abbrev pub short : ℕ → ℕ → Short
 short tag value = record { tag = tag; value = value }

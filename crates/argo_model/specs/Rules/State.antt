@@ -5,7 +5,7 @@ use Rattle.std.specs.Map.{lookup, set_value}
 use Rattle.std.specs.BTreeMap.{is_at, insert_entry}
 use Rattle.argo_base.specs.declared.message.Message.{Message}
 use Rattle.argo_base.specs.declared.ring_key.RingKey.{RingKey}
-use Rattle.argo_model.specs.Rules.Notices.{Notices}
+use Rattle.argo_base.specs.Notices.{Notices}
 use Rattle.argo_model.specs.declared.scripts.DomainLine.{DomainLine}
 
 -- a ring: its number among the rings that its owner made in this generation, from 1; the count of its slot bytes; the owner's

@@ -3,12 +3,11 @@ use Rattle.std.specs.Prelude.{ℕ, Bool, not, nat_lt, List, [], ◌∷◌, filte
 use Rattle.std.specs.List.{best_of}
 use Rattle.argo_base.specs.declared.errno.Errno.TheVariants.{NoDev}
 use Rattle.argo_base.specs.declared.ring_key.RingKey.{RingKey}
-use Rattle.argo_base.specs.Slots.{fits}
 use Rattle.argo_model.specs.declared.action.Outcome.TheVariants.{Swept, NoMore}
 use Rattle.argo_model.specs.Rules.State.{State, Domain, Live, Ring}
-use Rattle.argo_model.specs.Rules.Notices.{Notices, waiting}
+use Rattle.argo_base.specs.Notices.{fits_now, doms_of}
 use Rattle.argo_model.specs.Rules.Effects.{Change, Effect, answered, refuse_if, lifted, change_in}
-use Rattle.argo_model.specs.Rules.RingBytes.{PagedRing, paged, set_paged, free}
+use Rattle.argo_model.specs.Rules.RingBytes.{PagedRing, paged, set_paged, with_notices, free}
 
 -- the ring with the least serial
 abbrev pub least_serial : List (RingKey × Ring) → Option (RingKey × Ring)
@@ -19,24 +18,17 @@ least_serial (e ∷ es) = Some (best_of (λ a b. nat_lt a.1.serial b.1.serial) e
 abbrev pub next_ring : ℕ → List (RingKey × Ring) → Option (RingKey × Ring)
 next_ring after rings = least_serial (filter (λ e. nat_lt after e.1.serial) rings)
 
--- a notice whose size fits into so many free bytes, and one whose size does not
-abbrev pub has_room : ℕ → ℕ × ℕ → Bool
-has_room free n = fits free n.1
-
-abbrev pub lacks_room : ℕ → ℕ × ℕ → Bool
-lacks_room free n = not (fits free n.1)
-
--- a ring with these notices alone
-abbrev pub with_notices : PagedRing → Notices → PagedRing
-with_notices p notices = record p { ring = record p.ring { notices = notices } }
+-- a notice whose size does not fit into so many free bytes
+abbrev pub waits_on : ℕ → ℕ × ℕ → Bool
+waits_on free n = not (fits_now free n)
 
 -- exactly the notices that fit end, and their domains are signalled
 abbrev pub sweep_ring : PagedRing → Change PagedRing
 sweep_ring p =
     record {
       outcome = Swept p.ring.serial;
-      left = Some (with_notices p (filter (lacks_room (free p)) p.ring.notices));
-      signals = waiting (filter (has_room (free p)) p.ring.notices);
+      left = Some (with_notices p (filter (waits_on (free p)) p.ring.notices));
+      signals = doms_of (filter (fits_now (free p)) p.ring.notices);
     }
 
 abbrev pub sweep_found : Live → Option (RingKey × Ring) → Change Live

@@ -1,0 +1,32 @@
+//! The way to a world in which sections perform their actions.
+
+ghost use Rattle.std.specs.Prelude.{◌≡◌, List, Option, IsTrue, IfOk, OnErr};
+ghost use Rattle.argo_model.specs.declared.scripts.Actor.{Actor as AnyActor};
+ghost use Rattle.argo_model.specs.declared.closing.Totals.{Totals as AnyTotals};
+ghost use Rattle.argo_model.specs.Rules.Access.{is_fit_at, has_steps_left, ActsIn, counted_at};
+ghost use Rattle.argo_model.specs.Rules.Outcomes.{can_have};
+ghost use Rattle.argo_model.specs.Rules.State.{State};
+
+use crate::{Action, Outcome};
+use argo_base::NoMemory;
+
+/// A world in which the sections of a script perform their actions. Contracts see who its sections are, which never changes, and
+/// the totals of each; and its state, where it tells that. Then each outcome and each new state are exactly the rules'.
+pub trait Access {
+    ghost told: { Self → Option State };
+
+    ghost actors: { Self → List AnyActor };
+
+    ghost totals: { Self → List AnyTotals };
+
+    /// Performs an action of section `v`. Where memory runs out, all is as before.
+    fn act(&mut self, v: u32, a: Action) -> Result<Outcome, NoMemory>
+        requires fit { IsTrue (is_fit_at (actors self.old) v a) }
+        requires few { IsTrue (has_steps_left (totals self.old) v) }
+        ensures can { IfOk result (λ o. IsTrue (can_have a o)) }
+        ensures acts { IfOk result (λ o. ActsIn (actors self.old) v a (told self.old) o (told self.new)) }
+        ensures counts { IfOk result (λ o. totals self.new ≡ counted_at (totals self.old) v o) }
+        ensures actors_stay { actors self.new ≡ actors self.old }
+        ensures err_told { OnErr result (told self.new ≡ told self.old) }
+        ensures err_totals { OnErr result (totals self.new ≡ totals self.old) };
+}
