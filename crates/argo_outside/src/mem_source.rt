@@ -29,6 +29,8 @@ impl MemSource {
     pub fn new(bytes: Bytes, most: u32, fails: CallList) -> MemSource
         requires { 1 ≤ most }
         ensures left { ⟦<MemSource as Source>⟧.left result ≡ Some bytes }
+        ensures bytes { result.bytes ≡ bytes }
+        ensures place { result.place ≡ 0 }
         ensures most { result.most ≡ most }
         ensures fails { result.fails ≡ fails }
         ensures calls { result.calls ≡ 0 }

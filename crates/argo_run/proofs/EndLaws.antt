@@ -5,8 +5,8 @@ use Rattle.std.proofs.lemmas.List.{append-nil, length-append}
 use Rattle.argo_outside.specs.Source.{behind, IsAtEnd}
 use Rattle.argo_outside.specs.Sink.{appended}
 use Rattle.argo_model.specs.declared.closing.Final.{Final}
-use Rattle.argo_model.specs.Script.{Script}
-use Rattle.argo_model.specs.Report.{report_of}
+use Rattle.argo_model.specs.Runs.Script.{Script}
+use Rattle.argo_model.specs.Runs.Report.{report_of}
 use Rattle.script_text.specs.declared.kind.ScriptFault.{ScriptFault}
 use Rattle.script_text.specs.declared.kind.ScriptKind.TheVariants.{Size}
 use Rattle.script_text.specs.Scripts.{fault, scripts_of, script_of}

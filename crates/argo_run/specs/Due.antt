@@ -1,8 +1,8 @@
 -- The text that is due for a seed and the bytes of a script.
 use Rattle.std.specs.Prelude.{◌≡◌, ℕ, List, ◌++◌, codes, decimal, Result, Ok, Err}
-use Rattle.argo_model.specs.Script.{Script}
-use Rattle.argo_model.specs.Final.{final_of}
-use Rattle.argo_model.specs.Report.{report_of}
+use Rattle.argo_model.specs.Runs.Script.{Script}
+use Rattle.argo_model.specs.Runs.Final.{final_of}
+use Rattle.argo_model.specs.Runs.Report.{report_of}
 use Rattle.script_text.specs.declared.kind.ScriptFault.{ScriptFault}
 use Rattle.script_text.specs.Kind.{kind_text}
 use Rattle.script_text.specs.Scripts.{scripts_of}

@@ -2,9 +2,10 @@
 use Rattle.std.specs.Prelude.{◌≡◌, ℕ, ◌⊎◌, List, length, map, Result, Ok, Err, Option, Some, None, Vec, String, ⊤}
 use Rattle.std.specs.Global.{Global}
 use Rattle.std.specs.String.{string_bytes}
+use Rattle.argo_outside.specs.Faults.{Rose}
 use Rattle.argo_outside.specs.Source.{behind, IsAtEnd}
 use Rattle.argo_outside.specs.Sink.{appended, CutShort}
-use Rattle.argo_model.specs.Script.{Script}
+use Rattle.argo_model.specs.Runs.Script.{Script}
 use Rattle.script_text.specs.declared.kind.ScriptFault.{ScriptFault}
 use Rattle.script_text.specs.Scripts.{scripts_of}
 use Rattle.argo_run.specs.declared.status.Status.{Status}
@@ -97,6 +98,11 @@ seeds words = seed_of (map string_bytes words.items)
 
 abbrev pub HasSeed : Vec (String Global) Global → (ℕ → Type 0) → Type 0
 HasSeed words P = (seed : ℕ) × (seeds words ≡ Some seed) × P seed
+
+-- how the program ends after its last flush: as the run did, with no fault more; or the sink counted one
+abbrev pub EndsFlushed : ℕ → ℕ → Status → Status → Type 0
+EndsFlushed faults faults_new status end =
+    ((faults_new ≡ faults) × (end ≡ status)) ⊎ (Rose faults faults_new × (end ≡ s.SinkFault))
 
 -- the two ends of a run with wrong words
 abbrev pub IsUsageOrSinkFault : Status → Type 0

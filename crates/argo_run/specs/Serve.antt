@@ -1,7 +1,7 @@
 -- What the parts of a run promise.
 use Rattle.std.specs.Prelude.{◌≡◌, ℕ, ◌⊎◌, List, Result, Ok, Err, Option, ⊤}
 use Rattle.argo_outside.specs.Sink.{appended, CutShort}
-use Rattle.argo_model.specs.Script.{Script}
+use Rattle.argo_model.specs.Runs.Script.{Script}
 use Rattle.script_text.specs.declared.kind.ScriptFault.{ScriptFault}
 use Rattle.argo_run.specs.declared.status.Status.{Status}
 use Rattle.argo_run.specs.declared.status.Status.TheVariants as s

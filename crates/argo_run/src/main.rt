@@ -1,9 +1,11 @@
 //! The program: words, the bytes of a script and its report.
 //!
 //! `run` does all that the program does, and `run_serial` what it does for the words `serial N`: with status 0 what was written
-//! is exactly the report of the abstract Argo machine under the picks of the seed. It stands on all crates below it.
+//! is exactly the report of the abstract Argo machine under the picks of the seed. `end_of` says what the last flush leaves of that.
+//! It stands on all crates below it.
 #![tactic(auto)]
 
+mod end;
 mod program;
 mod serial;
 mod status;
@@ -12,11 +14,12 @@ mod tests;
 mod words;
 
 use argo_outside::{StdSink, StdSource};
+pub use end::end_of;
 pub use program::run;
 pub use serial::run_serial;
 pub use status::Status;
 use std::env;
-use std::io::{self, BufWriter, ErrorKind};
+use std::io::{self, BufWriter, ErrorKind, Write};
 use std::process::ExitCode;
 
 /// The exit status where the system refuses the words, as for one that is not UTF-8.
@@ -37,16 +40,18 @@ fn words_of(rt: &HostRuntime) -> io::Result<Vec<String>> {
     Ok(env::args(rt)?.skip(1).collect(rt.alloc())?)
 }
 
-// Runs over standard input and standard output.
+// Runs over standard input and standard output, which is buffered where there is memory for it.
 fn run_on_system(rt: &HostRuntime, words: &Vec<String>) -> Status {
-    let Ok(writer) = BufWriter::new(rt.alloc(), rt.stdout()) else {
-        return Status::NoMemory;
-    };
+    match BufWriter::new(rt.alloc(), rt.stdout()) {
+        Ok(writer) => run_into(rt, words, writer),
+        Err(_) => run_into(rt, words, rt.stdout()),
+    }
+}
+
+// Runs over standard input and this writer.
+fn run_into<O: Write + Drop>(rt: &HostRuntime, words: &Vec<String>, writer: O) -> Status {
     let mut src = StdSource::new(rt.stdin());
     let mut out = StdSink::new(writer);
     let status = run(rt.alloc(), words, &mut src, &mut out);
-    match out.flush() {
-        Ok(()) => status,
-        Err(_) => Status::SinkFault,
-    }
+    end_of(status, &mut out)
 }

@@ -28,6 +28,7 @@ pub fn run<S: Source, K: Sink>(
     ensures wrong_words_unread { seeds words.now ≡ None → src.new ≡ src.old }
     ensures source_fault { IfSourceFault result (Rose (S.faults src.old) (S.faults src.new)) }
     ensures source_fault_nothing { IfSourceFault result (K.written out.new ≡ K.written out.old) }
+    ensures source_fault_count { IfSourceFault result (K.faults out.new ≡ K.faults out.old) }
     ensures sink_fault { IfSinkFault result (Rose (K.faults out.old) (K.faults out.new)) }
     ensures sink_fault_cut { IfSinkFault result
         (IsTextCutShort (seeds words.now) (S.left src.old) (S.left src.new) (K.written out.old) (K.written out.new)) }

@@ -1,7 +1,7 @@
 ghost use Rattle.std.specs.Prelude.{◌≡◌, ◌≤◌, IfOk, IfErr};
 ghost use Rattle.std.specs.String.{string_bytes};
 ghost use Rattle.argo_outside.specs.Faults.{Rose};
-ghost use Rattle.argo_model.specs.Report.{report_of};
+ghost use Rattle.argo_model.specs.Runs.Report.{report_of};
 ghost use Rattle.script_text.specs.Scripts.{scripts_of};
 ghost use Rattle.argo_run.specs.Due.{fault_text};
 ghost use Rattle.argo_run.specs.Ends.{IsRead, IsDone, IsNoScript, IsCutShort, IsLeftOff, IfDone, IfUsage, IfSourceFault, IfSinkFault, IfScript, IfNoMemory, AgreesWith, IsDoneWhereNothingFails};
@@ -30,6 +30,7 @@ pub fn run_serial<S: Source, K: Sink>(alloc: Global, seed: u64, src: &mut S, out
     ensures usage { IfUsage result ⊥ }
     ensures source_fault { IfSourceFault result (Rose (S.faults src.old) (S.faults src.new)) }
     ensures source_fault_nothing { IfSourceFault result (K.written out.new ≡ K.written out.old) }
+    ensures source_fault_count { IfSourceFault result (K.faults out.new ≡ K.faults out.old) }
     ensures sink_fault { IfSinkFault result (Rose (K.faults out.old) (K.faults out.new)) }
     ensures sink_fault_cut { IfSinkFault result
         (IsCutShort seed (S.left src.old) (S.left src.new) (K.written out.old) (K.written out.new)) }
@@ -65,7 +66,7 @@ fn serve<K: Sink>(alloc: Global, seed: u64, text: &[u8], out: &mut K) -> Status
         (Rose (K.faults out.old) (K.faults out.new)) result }
 {
     match read_scripts(alloc, text) {
-        Ok(scripts) => match run_scripts(seed, alloc, &scripts) {
+        Ok(scripts) => match run_scripts(alloc, seed, &scripts) {
             Ok(shown) => report(alloc, out, &shown),
             Err(_) => Status::NoMemory,
         },

@@ -1,8 +1,9 @@
-use crate::{Status, run, run_serial};
+use crate::{Status, end_of, run, run_serial};
 use argo_base::{Bytes, NoMemory};
-use argo_outside::{CallList, MemSink, MemSource};
+use argo_outside::{CallList, MemSink, MemSource, Sink, StdSink};
 use script_text::ScriptKind;
 use std::alloc::{AllocError, Global};
+use std::io::BufWriter;
 use std::test::Fail;
 
 const ACROSS_PAGES: &[u8] = b"argo 1
@@ -124,6 +125,20 @@ fn the_words_of_a_seed_are_served(rt: HostRuntime) -> Result<(), Fail> {
         assert_eq!(rt; status, Status::Done, "at {text}");
         assert_eq!(rt; out.as_slice(), ACROSS_PAGES_REPORT, "at {text}");
     }
+    Ok(())
+}
+
+#[test]
+fn a_flush_that_fails_is_the_end(rt: HostRuntime) -> Result<(), Fail> {
+    let mut narrow = [0u8; 3];
+    let writer = BufWriter::new(rt.alloc(), narrow.as_mut_slice())?;
+    let mut out = StdSink::new(writer);
+    assert_eq!(rt; out.write(b"argo"), Ok(4));
+    assert_eq!(rt; end_of(Status::Done, &mut out), Status::SinkFault);
+    assert_eq!(rt; out.faults, 1);
+
+    let mut out = StdSink::new(Vec::<u8>::new(rt.alloc()));
+    assert_eq!(rt; end_of(Status::Usage, &mut out), Status::Usage);
     Ok(())
 }
 

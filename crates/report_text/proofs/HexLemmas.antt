@@ -4,7 +4,7 @@ use Rattle.std.specs.Fmt.{digit_glyph}
 use Rattle.std.specs.Str.{IsAscii}
 use Rattle.std.proofs.lemmas.Bool.Decides.{nat_tests}
 use Rattle.std.proofs.lemmas.Str.Ascii.{IsAscii-nil, IsAscii-cons}
-use Rattle.argo_model.specs.Report.{hex_of}
+use Rattle.argo_model.specs.Runs.Report.{hex_of}
 
 digit_glyph-ascii : (d : ℕ) → d < 16 → digit_glyph false d < 128
 digit_glyph-ascii d small = grind (arith, nat_tests)

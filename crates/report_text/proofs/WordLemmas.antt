@@ -3,7 +3,7 @@ use Rattle.std.proofs.Common.{◌≡◌, ℕ, List, [], ◌∷◌, ◌++◌, map
 use Rattle.std.specs.Prelude.{codes}
 use Rattle.std.specs.List.{flat_map, join_with_byte}
 use Rattle.argo_model.specs.declared.closing.Run.{Run}
-use Rattle.argo_model.specs.Report.{run_word, schedule_line}
+use Rattle.argo_model.specs.Runs.Report.{run_word, schedule_line}
 
 -- after the first word each word follows a space
 pub join_with_byte-map : {X : Type 0} (f : X → List ℕ) (w : List ℕ) (xs : List X) → join_with_byte 32 (w ∷ map f xs) ≡ w ++ flat_map (λ x. 32 ∷ f x) xs

@@ -9,7 +9,7 @@ use Rattle.argo_model.specs.declared.closing.DoneLine.{DoneLine}
 use Rattle.argo_model.specs.declared.closing.FinalDomain.{FinalDomain}
 use Rattle.argo_model.specs.declared.closing.FinalRing.{FinalRing}
 use Rattle.argo_model.specs.declared.closing.Final.{Final}
-use Rattle.argo_model.specs.Report.{report_of}
+use Rattle.argo_model.specs.Runs.Report.{report_of}
 
 -- the line of a section that is done, with its reply
 abbrev done : ℕ → ℕ → Reply → DoneLine

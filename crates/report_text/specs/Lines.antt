@@ -1,6 +1,6 @@
 -- The text of each kind of line.
 use Rattle.std.specs.Prelude.{ℕ, List}
-use Rattle.argo_model.specs.Report.{opening_line, summary_line, schedule_line, done_line, domain_line, ring_line, message_line, notice_line, slots_line, totals_line, end_line}
+use Rattle.argo_model.specs.Runs.Report.{opening_line, summary_line, schedule_line, done_line, domain_line, ring_line, message_line, notice_line, slots_line, totals_line, end_line}
 use Rattle.report_text.specs.declared.line.ReportLine.{ReportLine}
 use Rattle.report_text.specs.declared.line.ReportLine.TheVariants.{Opening, SummaryOpening, Schedule, Done, Domain, Ring, Message, Notice, Slots, Totals, End}
 

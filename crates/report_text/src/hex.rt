@@ -1,7 +1,7 @@
 ghost use Rattle.std.specs.Prelude.{◌≡◌, ◌<◌, ◌≤◌, ◌*◌, false, take, length, ◌++◌, OnOk};
 ghost use Rattle.std.specs.String.{string_bytes};
 ghost use Rattle.std.specs.Fmt.{digit_glyph};
-ghost use Rattle.argo_model.specs.Report.{hex_of};
+ghost use Rattle.argo_model.specs.Runs.Report.{hex_of};
 
 use std::alloc::AllocError;
 use std::str;

@@ -1,6 +1,6 @@
 ghost use Rattle.std.specs.Prelude.{◌≡◌, ◌++◌, length, OnOk};
 ghost use Rattle.std.specs.String.{string_bytes};
-ghost use Rattle.argo_model.specs.Report.{schedule_line, done_line, domain_line, ring_line, message_line, notice_line, slots_line, totals_line, life_word, flag_word, partner_word, clean_word};
+ghost use Rattle.argo_model.specs.Runs.Report.{schedule_line, done_line, domain_line, ring_line, message_line, notice_line, slots_line, totals_line, life_word, flag_word, partner_word, clean_word};
 
 use crate::hex::push_hex;
 use crate::reply::push_reply;

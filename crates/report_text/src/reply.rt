@@ -1,6 +1,6 @@
 ghost use Rattle.std.specs.Prelude.{◌≡◌, ◌++◌, IfOk, OnOk};
 ghost use Rattle.std.specs.String.{string_bytes};
-ghost use Rattle.argo_model.specs.Report.{reply_bytes, head_of};
+ghost use Rattle.argo_model.specs.Runs.Report.{reply_bytes, head_of};
 
 use crate::hex::push_hex;
 use argo_base::{Bytes, NoMemory};

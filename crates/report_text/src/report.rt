@@ -2,7 +2,7 @@ ghost use Rattle.std.specs.Prelude.{◌≡◌, ◌≤◌, ◌==◌, OnOk, OnErr,
 ghost use Rattle.std.specs.List.{list_all};
 ghost use Rattle.argo_outside.specs.Faults.{Rose};
 ghost use Rattle.argo_outside.specs.Sink.{appended, CutShort};
-ghost use Rattle.argo_model.specs.Report.{report_of, summary_of, closing_text, domain_text, ring_text, message_lines, message_line, notice_line, done_line, slots_lines, shown_row, totals_lines};
+ghost use Rattle.argo_model.specs.Runs.Report.{report_of, summary_of, closing_text, domain_text, ring_text, message_lines, message_line, notice_line, done_line, slots_lines, shown_row, totals_lines};
 ghost use Rattle.report_text.specs.Wrote.{Wrote};
 ghost use Rattle.report_text.specs.Lines.{text_of};
 

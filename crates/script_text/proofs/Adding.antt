@@ -3,7 +3,7 @@ use Rattle.std.proofs.Common.{◌≡◌, ◌+◌, ◌≤◌, ◌<◌, ◌⊎◌,
 use Rattle.std.proofs.lemmas.Bool.{and_right, le-leb, lt-leb}
 use Rattle.argo_model.specs.declared.scripts.Actor.{Actor}
 use Rattle.argo_model.specs.declared.line.Line.{Line}
-use Rattle.argo_model.specs.Script.{Section, Script, turns_of}
+use Rattle.argo_model.specs.Runs.Script.{Section, Script, turns_of}
 use Rattle.script_text.specs.declared.entry.Entry.TheVariants as entries
 use Rattle.script_text.specs.declared.kind.ScriptKind.TheVariants.{Limit}
 use Rattle.script_text.specs.declared.reader.Reader.TheInside.{Inside}

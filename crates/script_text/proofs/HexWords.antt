@@ -2,7 +2,7 @@
 use Rattle.std.proofs.Common.{◌≡◌, ℕ, ◌+◌, ◌*◌, ◌<◌, ◌⊎◌, true, leb, List, [], ◌∷◌, length, refl, inl, inr, arith}
 use Rattle.std.proofs.lemmas.Bool.{and_parts, ltb-true, eqb-true}
 use Rattle.std.proofs.lemmas.Bool.Decides.{nat_tests}
-use Rattle.argo_model.specs.Script.{is_short}
+use Rattle.argo_model.specs.Runs.Script.{is_short}
 use Rattle.script_text.specs.Numbers.{is_hex, bytes_of}
 
 halves : (w : List ℕ) → (length w ≡ 2 * length (bytes_of w)) ⊎ (length w ≡ 2 * length (bytes_of w) + 1)

@@ -4,7 +4,7 @@ use Rattle.std.proofs.lemmas.List.{length_push}
 use Rattle.std.proofs.lemmas.List.Sums.{sum_by_push}
 use Rattle.argo_model.specs.declared.scripts.Actor.{Actor}
 use Rattle.argo_model.specs.declared.line.Line.{Line}
-use Rattle.argo_model.specs.Script.{Section, turns_of}
+use Rattle.argo_model.specs.Runs.Script.{Section, turns_of}
 use Rattle.script_text.specs.Reading.{last_actor, add_line, line_count, turn_count}
 use Rattle.script_text.specs.Reader.{sections_of}
 

@@ -9,7 +9,7 @@ use Rattle.argo_model.specs.declared.scripts.DomainLine.{DomainLine}
 use Rattle.argo_model.specs.declared.scripts.Actor.{Actor}
 use Rattle.argo_model.specs.declared.scripts.Actor.TheVariants as actors
 use Rattle.argo_model.specs.declared.line.Line.{Line}
-use Rattle.argo_model.specs.Script.{Section, Script, is_domain_id, is_page_count, is_generation, is_vcpu_line, is_control_line, is_lawful_for, is_lawful_section, has_domain, are_distinct, names_known, is_known_actor, is_known_section, is_control, is_line_of_one, is_actor_of_one, is_section_of_one, is_version, turns_of, are_domains_within, are_sections_within, are_lawful_domains, is_lawful}
+use Rattle.argo_model.specs.Runs.Script.{Section, Script, is_domain_id, is_page_count, is_generation, is_vcpu_line, is_control_line, is_lawful_for, is_lawful_section, has_domain, are_distinct, names_known, is_known_actor, is_known_section, is_control, is_line_of_one, is_actor_of_one, is_section_of_one, is_version, turns_of, are_domains_within, are_sections_within, are_lawful_domains, is_lawful}
 use Rattle.script_text.specs.declared.entry.Entry.{Entry}
 use Rattle.script_text.specs.declared.entry.Entry.TheVariants as entries
 use Rattle.script_text.specs.declared.kind.ScriptKind.{ScriptKind}

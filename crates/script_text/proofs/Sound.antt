@@ -9,7 +9,7 @@ use Rattle.argo_model.specs.declared.scripts.Actor.{Actor}
 use Rattle.argo_model.specs.declared.scripts.Actor.TheVariants as actors
 use Rattle.argo_model.specs.declared.line.Line.{Line}
 use Rattle.argo_model.specs.declared.line.Line.TheVariants as lines
-use Rattle.argo_model.specs.Script.{Script, is_domain_id, is_page_count, is_vcpu_line, is_control_line, is_known_actor, has_domain, names_known, is_control, is_actor_of_one, is_line_of_one}
+use Rattle.argo_model.specs.Runs.Script.{Script, is_domain_id, is_page_count, is_vcpu_line, is_control_line, is_known_actor, has_domain, names_known, is_control, is_actor_of_one, is_line_of_one}
 use Rattle.script_text.specs.declared.kind.ScriptKind.{ScriptKind}
 use Rattle.script_text.specs.declared.kind.ScriptKind.TheVariants.{Count, Word, Range, Domain}
 use Rattle.script_text.specs.declared.verb.Verb.{Verb}

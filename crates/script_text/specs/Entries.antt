@@ -6,7 +6,7 @@ use Rattle.argo_model.specs.declared.scripts.Actor.{Actor}
 use Rattle.argo_model.specs.declared.scripts.Actor.TheVariants as actors
 use Rattle.argo_model.specs.declared.line.Line.{Line}
 use Rattle.argo_model.specs.declared.line.Line.TheVariants as lines
-use Rattle.argo_model.specs.Script.{Script, is_domain_id, is_page_count, is_generation, is_vcpu_line, has_domain, is_known_actor}
+use Rattle.argo_model.specs.Runs.Script.{Script, is_domain_id, is_page_count, is_generation, is_vcpu_line, has_domain, is_known_actor}
 use Rattle.script_text.specs.declared.kind.ScriptKind.{ScriptKind}
 use Rattle.script_text.specs.declared.kind.ScriptKind.TheVariants.{Word, Count, Number, Hex, Range, Domain}
 use Rattle.script_text.specs.declared.verb.Verb.{Verb}

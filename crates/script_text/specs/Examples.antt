@@ -3,7 +3,7 @@ use Rattle.std.specs.Prelude.{◌≡◌, ℕ, ◌<◌, true, false, List, [], �
 use Rattle.std.specs.List.{flat_map}
 use Rattle.argo_model.specs.declared.scripts.Actor.TheVariants as actors
 use Rattle.argo_model.specs.declared.line.Line.TheVariants as lines
-use Rattle.argo_model.specs.Script.{Script}
+use Rattle.argo_model.specs.Runs.Script.{Script}
 use Rattle.script_text.specs.declared.kind.ScriptFault.{ScriptFault}
 use Rattle.script_text.specs.declared.kind.ScriptKind.TheVariants.{Size, Header, Word, Place, Count, Number, Hex, Range, Domain, Limit}
 use Rattle.script_text.specs.Scripts.{fault, scripts_of}

@@ -3,7 +3,7 @@ use Rattle.std.specs.Prelude.{◌≡◌, List, [], ◌∷◌, ◌++◌, sum_by, 
 use Rattle.std.specs.List.{list_any}
 use Rattle.argo_model.specs.declared.scripts.Actor.{Actor}
 use Rattle.argo_model.specs.declared.line.Line.{Line}
-use Rattle.argo_model.specs.Script.{Section, Script, is_control}
+use Rattle.argo_model.specs.Runs.Script.{Section, Script, is_control}
 use Rattle.script_text.specs.Reading.{line_count, turn_count}
 use Rattle.script_text.specs.declared.reader.Reader.TheInside.{Inside}
 

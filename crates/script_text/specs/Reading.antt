@@ -4,7 +4,7 @@ use Rattle.std.specs.List.{list_any}
 use Rattle.argo_model.specs.declared.scripts.Actor.{Actor}
 use Rattle.argo_model.specs.declared.scripts.Actor.TheVariants as actors
 use Rattle.argo_model.specs.declared.line.Line.{Line}
-use Rattle.argo_model.specs.Script.{Section, Script, turns_of, is_control, are_domains_within}
+use Rattle.argo_model.specs.Runs.Script.{Section, Script, turns_of, is_control, are_domains_within}
 use Rattle.script_text.specs.declared.kind.ScriptKind.{ScriptKind}
 use Rattle.script_text.specs.declared.kind.ScriptKind.TheVariants.{Word, Place, Limit}
 use Rattle.script_text.specs.declared.verb.Verb.{Verb}

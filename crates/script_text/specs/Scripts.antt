@@ -1,7 +1,7 @@
 -- The script that a text is, or its first fault.
 use Rattle.std.specs.Prelude.{ℕ, nat_lt, if◌then◌else◌, List, [], ◌∷◌, length, codes, Result, Ok, Err}
 use Rattle.std.specs.Str.{bytes_eq}
-use Rattle.argo_model.specs.Script.{Script}
+use Rattle.argo_model.specs.Runs.Script.{Script}
 use Rattle.script_text.specs.declared.kind.ScriptKind.{ScriptKind}
 use Rattle.script_text.specs.declared.kind.ScriptKind.TheVariants.{Size, Header}
 use Rattle.script_text.specs.declared.kind.ScriptFault.{ScriptFault}

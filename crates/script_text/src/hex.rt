@@ -1,5 +1,5 @@
 ghost use Rattle.std.specs.Prelude.{◌≡◌, ◌+◌, ◌*◌, ◌<◌, length, IfOk, IsTrue};
-ghost use Rattle.argo_model.specs.Script.{is_short};
+ghost use Rattle.argo_model.specs.Runs.Script.{is_short};
 ghost use Rattle.std.specs.Char.{digit_value};
 ghost use Rattle.std.specs.List.{list_all};
 ghost use Rattle.script_text.specs.Numbers.{is_hex_digit, is_hex, bytes_of};

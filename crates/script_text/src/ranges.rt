@@ -1,6 +1,6 @@
 ghost use Rattle.std.specs.Prelude.{◌≡◌};
 ghost use Rattle.argo_base.specs.Slots.{is_legal};
-ghost use Rattle.argo_model.specs.Script.{is_domain_id, is_page_count, is_short, is_turn_count, is_generation, has_domain};
+ghost use Rattle.argo_model.specs.Runs.Script.{is_domain_id, is_page_count, is_short, is_turn_count, is_generation, has_domain};
 
 use argo_base::DomId;
 use argo_model::DomainLines;

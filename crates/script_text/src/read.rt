@@ -1,5 +1,5 @@
 ghost use Rattle.std.specs.Prelude.{◌≡◌, ◌⊎◌, ◌+◌, ◌^◌, ◌<◌, length, IfOk, IfErr, IsTrue, Ok};
-ghost use Rattle.argo_model.specs.Script.{is_lawful};
+ghost use Rattle.argo_model.specs.Runs.Script.{is_lawful};
 ghost use Rattle.script_text.specs.Lines.{lines_of, words_of, said_from};
 ghost use Rattle.script_text.specs.Gives.{Reads};
 ghost use Rattle.script_text.specs.Cause.{Finds, IsCause, at};

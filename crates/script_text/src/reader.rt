@@ -1,6 +1,6 @@
 ghost use Rattle.std.specs.Prelude.{◌≡◌, [], IfOk, IsTrue, IsSome};
 ghost use Rattle.std.specs.List.{list_all, list_any};
-ghost use Rattle.argo_model.specs.Script.{is_lawful, is_lawful_section, turns_of, is_control};
+ghost use Rattle.argo_model.specs.Runs.Script.{is_lawful, is_lawful_section, turns_of, is_control};
 ghost use Rattle.script_text.specs.declared.entry.Entry.TheVariants as entries;
 ghost use Rattle.script_text.specs.Reading.{last_actor, is_vcpu, is_controller, is_in_place, added, line_read, HasRoom};
 ghost use Rattle.script_text.specs.Lines.{words_of};
@@ -47,7 +47,7 @@ pub(crate) struct Reader {
 }
 
 impl Model for Reader {
-    ghost use Rattle.argo_model.specs.Script.{Script};
+    ghost use Rattle.argo_model.specs.Runs.Script.{Script};
 
     ghost Value = { Script };
 

@@ -5,8 +5,8 @@ use Rattle.std.proofs.lemmas.Bool.{cases_lt}
 use Rattle.std.proofs.lemmas.Bool.Decides.{nat_tests}
 use Rattle.std.proofs.lemmas.List.{take-append-le, length-append, append-nil}
 use Rattle.std.proofs.lemmas.Option.{slice_get-get_or, slice_get_within}
-use Rattle.argo_model.specs.Script.{Script}
-use Rattle.argo_model.specs.Run.{run, Course, is_open, is_finished}
+use Rattle.argo_model.specs.Runs.Script.{Script}
+use Rattle.argo_model.specs.Runs.Run.{run, Course, is_open, is_finished}
 use Rattle.argo_model.proofs.RunLaws.{none_unfinished, run-sections}
 use Rattle.serial_run.specs.Picks.{next_number, number_after, place_by, open_sections, next_pick, EachIsPick}
 

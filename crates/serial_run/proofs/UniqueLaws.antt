@@ -4,8 +4,8 @@ use Rattle.std.specs.List.{list_all, range_with_len}
 use Rattle.std.proofs.lemmas.Bool.{cases_lt, false≢true}
 use Rattle.std.proofs.lemmas.List.{take_all}
 use Rattle.std.proofs.lemmas.Option.{slice_get-get_or, slice_get_within, slice_get_past}
-use Rattle.argo_model.specs.Script.{Script}
-use Rattle.argo_model.specs.Run.{run, Course, Progress, is_open, is_unfinished, is_finished, has_lines}
+use Rattle.argo_model.specs.Runs.Script.{Script}
+use Rattle.argo_model.specs.Runs.Run.{run, Course, Progress, is_open, is_unfinished, is_finished, has_lines}
 use Rattle.argo_model.proofs.TestLaws.{both}
 use Rattle.serial_run.specs.Picks.{number_after, place_by, open_sections, next_pick, EachIsPick, ArePicks, PicksAreUnique}
 

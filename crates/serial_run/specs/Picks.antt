@@ -2,9 +2,9 @@
 use Rattle.std.specs.Prelude.{◌≡◌, ℕ, zero, suc, ◌+◌, ◌*◌, ◌^◌, ◌/◌, ◌%◌, ◌<◌, ◌==◌, List, length, take, filter, slice_get, Option, if◌then◌else◌}
 use Rattle.std.specs.List.{range_with_len}
 use Rattle.argo_model.specs.declared.closing.Final.{Final}
-use Rattle.argo_model.specs.Script.{Script}
-use Rattle.argo_model.specs.Run.{Course, run, is_open, IsComplete}
-use Rattle.argo_model.specs.Final.{final_of}
+use Rattle.argo_model.specs.Runs.Script.{Script}
+use Rattle.argo_model.specs.Runs.Run.{Course, run, is_open, IsComplete}
+use Rattle.argo_model.specs.Runs.Final.{final_of}
 
 -- the generator's number after this one
 abbrev pub next_number : ℕ → ℕ

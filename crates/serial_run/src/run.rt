@@ -1,16 +1,17 @@
 ghost use Rattle.std.specs.Prelude.{◌≡◌, ◌≤◌, vec_capacity, filter, IfOk};
 ghost use Rattle.std.specs.List.{range_with_len};
-ghost use Rattle.argo_model.specs.Run.{run, is_open};
+ghost use Rattle.argo_model.specs.Runs.Run.{run, is_open};
 ghost use Rattle.serial_run.specs.Picks.{IsRunByPicks};
 
 use crate::picks::Picks;
 use argo_base::NoMemory;
-use argo_model::{Final, Machine, Scripts};
+use argo_machine::Machine;
+use argo_model::{Final, Scripts};
 use std::alloc::Global;
 
 /// Runs a script by the picks of a seed: for 0 each section to its end in its turn, else one step of a section picked by a
 /// linear congruential generator.
-pub fn run_scripts(seed: u64, alloc: Global, scripts: &Scripts) -> Result<Final, NoMemory>
+pub fn run_scripts(alloc: Global, seed: u64, scripts: &Scripts) -> Result<Final, NoMemory>
     ensures { IfOk result (λ shown. IsRunByPicks scripts.now seed shown) }
 {
     let count = scripts.parts.len();
@@ -20,10 +21,10 @@ pub fn run_scripts(seed: u64, alloc: Global, scripts: &Scripts) -> Result<Final,
     list_open(&machine, count as u32, &mut vcpus);
     'steps: while !vcpus.is_empty() {
         let v = vcpus[picks.next_place(vcpus.len())];
-        machine.step(alloc, v)?;
+        machine.step(v)?;
         list_open(&machine, count as u32, &mut vcpus);
     }
-    machine.finish(alloc)
+    machine.finish()
 }
 
 // Lists the sections, of the first so many, that have a line left.

@@ -4,7 +4,8 @@ ghost use Rattle.argo_model.specs.declared.line.Line.TheVariants.{Load};
 
 use super::*;
 use argo_base::{DomId, NoMemory};
-use argo_model::{Actor, DomainLine, DomainLines, Line, Lines, Machine, Part, Parts, Run, Scripts};
+use argo_machine::Machine;
+use argo_model::{Actor, DomainLine, DomainLines, Line, Lines, Part, Parts, Run, Scripts};
 use std::alloc::Global;
 use std::test::Fail;
 
@@ -41,11 +42,11 @@ fn two_sections(alloc: Global) -> Result<Scripts, NoMemory> {
 #[test]
 fn a_seed_picks_the_schedule(rt: HostRuntime) -> Result<(), Fail> {
     let scripts = two_sections(rt.alloc())?;
-    let in_turn = run_scripts(0, rt.alloc(), &scripts)?;
+    let in_turn = run_scripts(rt.alloc(), 0, &scripts)?;
     let first = Run { vcpu: 0, count: 2 };
     let second = Run { vcpu: 1, count: 2 };
     assert_eq!(rt; in_turn.runs.as_slice(), [first, second].as_slice());
-    let picked = run_scripts(7, rt.alloc(), &scripts)?;
+    let picked = run_scripts(rt.alloc(), 7, &scripts)?;
     let once = Run { vcpu: 0, count: 1 };
     assert_eq!(rt; picked.runs.as_slice(), [once, second, once].as_slice());
     Ok(())
@@ -56,9 +57,9 @@ fn a_machine_is_closed_between_steps(rt: HostRuntime) -> Result<(), Fail> {
     let scripts = two_sections(rt.alloc())?;
     let mut machine = Machine::new(rt.alloc(), &scripts)?;
     'steps: while !machine.finished(1) {
-        machine.step(rt.alloc(), 1)?;
+        machine.step(1)?;
     }
-    let (domains, heard) = machine.closed(rt.alloc())?;
+    let (domains, heard) = machine.closed()?;
     let mut pages = Vec::new(rt.alloc());
     for domain in domains.as_slice() {
         pages.push(domain.pages.len())?;

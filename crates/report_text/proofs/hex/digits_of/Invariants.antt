@@ -1,6 +1,6 @@
 -- The digits of the bytes so far.
 use Rattle.std.proofs.Common.{◌≡◌, ◌*◌, length, take}
-use Rattle.argo_model.specs.Report.{hex_of}
+use Rattle.argo_model.specs.Runs.Report.{hex_of}
 use Rattle.report_text.proofs.hex.digits_of.Given as goal
 
 abbrev pub invariant-loop-i : goal.invariant-loop-i

@@ -1,7 +1,7 @@
 -- The text so far, and then the digits of the rest.
 use Rattle.std.proofs.Common.{◌≡◌, ◌++◌, length}
 use Rattle.std.specs.String.{string_bytes}
-use Rattle.argo_model.specs.Report.{hex_of}
+use Rattle.argo_model.specs.Runs.Report.{hex_of}
 use Rattle.report_text.proofs.hex.push_hex.Given as goal
 
 abbrev pub invariant-loop-rest : goal.invariant-loop-rest

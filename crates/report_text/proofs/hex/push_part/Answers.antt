@@ -1,7 +1,7 @@
 use Rattle.std.proofs.Common.{◌≡◌, ◌∙◌, rules}
 use Rattle.std.specs.Str.{IsUtf8}
 use Rattle.std.proofs.lemmas.Str.{IsUtf8-from_ascii}
-use Rattle.argo_model.specs.Report.{hex_of}
+use Rattle.argo_model.specs.Runs.Report.{hex_of}
 use Rattle.report_text.proofs.HexLemmas.{IsAscii-hex_of}
 use Rattle.report_text.proofs.hex.push_part.Goals as goal
 

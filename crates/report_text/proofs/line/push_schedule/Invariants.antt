@@ -2,7 +2,7 @@
 use Rattle.std.proofs.Common.{◌≡◌, ◌++◌, ◌∷◌, take}
 use Rattle.std.specs.List.{flat_map}
 use Rattle.std.specs.String.{string_bytes}
-use Rattle.argo_model.specs.Report.{run_word}
+use Rattle.argo_model.specs.Runs.Report.{run_word}
 use Rattle.report_text.proofs.line.push_schedule.Given as goal
 
 abbrev pub invariant-loop-run : goal.invariant-loop-run

@@ -1,5 +1,5 @@
 use Rattle.std.proofs.Common.{rules}
-use Rattle.argo_model.specs.Report.{end_line}
+use Rattle.argo_model.specs.Runs.Report.{end_line}
 use Rattle.report_text.proofs.WroteLemmas.{Wrote-then, Wrote-stop}
 use Rattle.report_text.proofs.report.write_closing.Goals as goal
 

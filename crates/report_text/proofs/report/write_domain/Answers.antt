@@ -1,6 +1,6 @@
 use Rattle.std.proofs.Common.{rules}
 use Rattle.std.specs.List.{flat_map}
-use Rattle.argo_model.specs.Report.{ring_text}
+use Rattle.argo_model.specs.Runs.Report.{ring_text}
 use Rattle.report_text.proofs.WroteLemmas.{Wrote-then, Wrote-stop}
 use Rattle.report_text.proofs.report.write_domain.Goals as goal
 

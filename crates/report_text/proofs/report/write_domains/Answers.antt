@@ -1,5 +1,5 @@
 use Rattle.std.proofs.Common.{rules}
-use Rattle.argo_model.specs.Report.{domain_text}
+use Rattle.argo_model.specs.Runs.Report.{domain_text}
 use Rattle.report_text.proofs.WroteLemmas.{Wrote-one_more, Wrote-stop_in}
 use Rattle.report_text.proofs.report.write_domains.Goals as goal
 

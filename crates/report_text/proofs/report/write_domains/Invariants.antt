@@ -1,7 +1,7 @@
 -- The texts so far are written.
 use Rattle.std.proofs.Common.{take, Ok}
 use Rattle.std.specs.List.{flat_map}
-use Rattle.argo_model.specs.Report.{domain_text}
+use Rattle.argo_model.specs.Runs.Report.{domain_text}
 use Rattle.report_text.specs.Wrote.{Wrote}
 use Rattle.report_text.proofs.report.write_domains.Given as goal
 

@@ -1,5 +1,5 @@
 use Rattle.std.proofs.Common.{rules}
-use Rattle.argo_model.specs.Report.{done_line}
+use Rattle.argo_model.specs.Runs.Report.{done_line}
 use Rattle.report_text.proofs.WroteLemmas.{Wrote-one_more, Wrote-stop_in}
 use Rattle.report_text.proofs.report.write_done.Goals as goal
 

@@ -1,7 +1,7 @@
 -- The texts so far are written.
 use Rattle.std.proofs.Common.{take, Ok}
 use Rattle.std.specs.List.{flat_map}
-use Rattle.argo_model.specs.Report.{done_line}
+use Rattle.argo_model.specs.Runs.Report.{done_line}
 use Rattle.report_text.specs.Wrote.{Wrote}
 use Rattle.report_text.proofs.report.write_done.Given as goal
 

@@ -1,6 +1,6 @@
 use Rattle.std.proofs.Common.{rules, ◌++◌}
 use Rattle.std.specs.List.{flat_map}
-use Rattle.argo_model.specs.Report.{schedule_line, done_line, domain_text, closing_text}
+use Rattle.argo_model.specs.Runs.Report.{schedule_line, done_line, domain_text, closing_text}
 use Rattle.report_text.proofs.WroteLemmas.{Wrote-then, Wrote-stop}
 use Rattle.report_text.proofs.report.write_report_lines.Goals as goal
 

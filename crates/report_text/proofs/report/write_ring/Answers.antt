@@ -1,6 +1,6 @@
 use Rattle.std.proofs.Common.{rules, ◌++◌}
 use Rattle.std.specs.List.{flat_map}
-use Rattle.argo_model.specs.Report.{message_lines, notice_line, slots_lines}
+use Rattle.argo_model.specs.Runs.Report.{message_lines, notice_line, slots_lines}
 use Rattle.report_text.proofs.WroteLemmas.{Wrote-then, Wrote-stop}
 use Rattle.report_text.proofs.report.write_ring.Goals as goal
 

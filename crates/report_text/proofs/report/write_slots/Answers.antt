@@ -2,7 +2,7 @@ use Rattle.std.proofs.Common.{◌≡◌, ℕ, ◌*◌, ◌<◌, length, get_or, 
 use Rattle.std.specs.List.{range_with_len}
 use Rattle.std.specs.Int.{div_ceil}
 use Rattle.std.proofs.lemmas.List.FromFn.{length-range_with_len, get_or-range_with_len}
-use Rattle.argo_model.specs.Report.{slots_at}
+use Rattle.argo_model.specs.Runs.Report.{slots_at}
 use Rattle.report_text.proofs.WroteLemmas.{Wrote-all, Wrote-one_more, Wrote-stop_in}
 use Rattle.report_text.proofs.report.write_slots.Goals as goal
 

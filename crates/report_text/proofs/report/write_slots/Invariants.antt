@@ -2,7 +2,7 @@
 use Rattle.std.proofs.Common.{Ok, ◌*◌, length, take}
 use Rattle.std.specs.List.{flat_map, range_with_len}
 use Rattle.std.specs.Int.{div_ceil}
-use Rattle.argo_model.specs.Report.{slots_at}
+use Rattle.argo_model.specs.Runs.Report.{slots_at}
 use Rattle.report_text.specs.Wrote.{Wrote}
 use Rattle.report_text.proofs.report.write_slots.Given as goal
 

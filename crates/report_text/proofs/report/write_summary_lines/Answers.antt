@@ -1,5 +1,5 @@
 use Rattle.std.proofs.Common.{rules}
-use Rattle.argo_model.specs.Report.{closing_text}
+use Rattle.argo_model.specs.Runs.Report.{closing_text}
 use Rattle.report_text.proofs.WroteLemmas.{Wrote-then, Wrote-stop}
 use Rattle.report_text.proofs.report.write_summary_lines.Goals as goal
 

@@ -1,7 +1,7 @@
 use Rattle.std.proofs.Common.{◌<◌, length, rules}
 use Rattle.std.specs.List.{enumerate_from}
 use Rattle.std.proofs.lemmas.List.FromFn.{length-enumerate_from}
-use Rattle.argo_model.specs.Report.{totals_line}
+use Rattle.argo_model.specs.Runs.Report.{totals_line}
 use Rattle.report_text.proofs.WroteLemmas.{Wrote-all, Wrote-one_more, Wrote-stop_in, enumerate_from-item}
 use Rattle.report_text.proofs.report.write_totals.Goals as goal
 

@@ -1,7 +1,7 @@
 -- The totals so far are written.
 use Rattle.std.proofs.Common.{take, Ok}
 use Rattle.std.specs.List.{flat_map, enumerate_from}
-use Rattle.argo_model.specs.Report.{totals_line}
+use Rattle.argo_model.specs.Runs.Report.{totals_line}
 use Rattle.report_text.specs.Wrote.{Wrote}
 use Rattle.report_text.proofs.report.write_totals.Given as goal
 

@@ -1,5 +1,5 @@
 use Rattle.std.proofs.Common.{◌≡◌, ◌+◌, ◌^◌, ◌<◌, true, length}
-use Rattle.argo_model.specs.Script.{is_lawful}
+use Rattle.argo_model.specs.Runs.Script.{is_lawful}
 use Rattle.script_text.specs.Lines.{lines_of, said_from}
 use Rattle.script_text.specs.Scripts.{read_on}
 use Rattle.script_text.proofs.read.read_on.Given as goal

@@ -1,5 +1,5 @@
 use Rattle.std.proofs.Common.{ap, ◌∙◌, arith, refl, length, vec_capacity}
-use Rattle.argo_model.specs.Run.{run, is_open}
+use Rattle.argo_model.specs.Runs.Run.{run, is_open}
 use Rattle.serial_run.proofs.PickLaws.{filter-few, listed-more, listed-same, open-where}
 use Rattle.serial_run.proofs.run.list_open.Goals.{then-not-finished, else-not-finished}
 use Rattle.serial_run.proofs.run.list_open.Goals as goal

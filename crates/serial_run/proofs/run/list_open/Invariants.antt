@@ -1,6 +1,6 @@
 use Rattle.std.proofs.Common.{◌≡◌, vec_capacity, filter}
 use Rattle.std.specs.List.{range_with_len}
-use Rattle.argo_model.specs.Run.{run, is_open}
+use Rattle.argo_model.specs.Runs.Run.{run, is_open}
 use Rattle.serial_run.proofs.run.list_open.Given as goal
 
 -- the open ones of those looked at

@@ -1,7 +1,7 @@
 use Rattle.std.proofs.Common.{◌≡◌, ◌∙◌, sym, subst, arith, ℕ, List, length, IsTrue}
 use Rattle.std.specs.List.{list_all}
-use Rattle.argo_model.specs.Script.{Script}
-use Rattle.argo_model.specs.Run.{run, is_open, is_finished}
+use Rattle.argo_model.specs.Runs.Script.{Script}
+use Rattle.argo_model.specs.Runs.Run.{run, is_open, is_finished}
 use Rattle.serial_run.specs.Picks.{EachIsPick}
 use Rattle.serial_run.proofs.PickLaws.{all_finished, picked-open, one-more, number-turned, pick-made, ready-of, zero-where, none-left}
 use Rattle.serial_run.proofs.run.run_scripts.Goals as goal

@@ -1,7 +1,7 @@
 use Rattle.std.proofs.Common.{◌≡◌, ◌≤◌, Vec, Global, ℕ, vec_capacity, length}
-use Rattle.argo_model.specs.Script.{Script}
+use Rattle.argo_model.specs.Runs.Script.{Script}
 use Rattle.argo_model.specs.Machine.{Standing}
-use Rattle.argo_model.specs.Run.{run}
+use Rattle.argo_model.specs.Runs.Run.{run}
 use Rattle.serial_run.specs.declared.picks.Picks.{Picks}
 use Rattle.serial_run.specs.Picks.{open_sections, number_after, EachIsPick}
 use Rattle.serial_run.proofs.run.run_scripts.Given as goal
