@@ -1,0 +1,11 @@
+pub mod FitLaws
+pub mod LeadLaws
+pub mod LineLaws
+pub mod MovedLaws
+pub mod NotifyLaws
+pub mod RangeLaws
+pub mod ReceiveLaws
+pub mod RegisterLaws
+pub mod SendLaws
+pub mod TestLaws
+pub mod VcpuLaws

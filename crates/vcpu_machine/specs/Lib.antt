@@ -1,0 +1,14 @@
+pub mod Cursor
+pub mod Entries
+pub mod Followed
+pub mod Notifying
+pub mod Phase
+pub mod Question
+pub mod Ranges
+pub mod Reader
+pub mod Receiving
+pub mod Registering
+pub mod Sending
+pub mod Steps
+pub mod Text
+pub mod Vcpu

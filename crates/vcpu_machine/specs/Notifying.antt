@@ -1,0 +1,27 @@
+-- What follows the fetches of notify.
+use Rattle.std.specs.Prelude.{ℕ, ◌+◌, ◌*◌, List}
+use Rattle.vcpu_machine.specs.declared.reads.NotifyRead.{NotifyRead}
+use Rattle.vcpu_machine.specs.declared.reads.NotifyRead.TheVariants.{Head, Entry as EntryRead}
+use Rattle.argo_model.specs.Programs.Asks.{Rests}
+use Rattle.argo_model.specs.Programs.Notify.{notify_head, answer_entry, answer_entries}
+use Rattle.vcpu_machine.specs.Entries.{entry_at, places_after, IsEntry}
+
+-- what follows the bytes
+abbrev pub after_notify_read : NotifyRead → List ℕ → Rests
+after_notify_read (Head base) head os = notify_head base head os
+after_notify_read (EntryRead e) entry os = answer_entry (entry_at e) entry (answer_entries (places_after e)) os
+
+-- how many bytes there are
+abbrev pub notify_size : NotifyRead → ℕ
+notify_size (Head base) = 8
+notify_size (EntryRead e) = 20
+
+-- an entry is one of at most 256
+abbrev pub IsNotifyRead : NotifyRead → Type 0
+IsNotifyRead (Head base) = Unit {0}
+IsNotifyRead (EntryRead e) = IsEntry e
+
+-- how many actions follow the bytes at most: an entry is asked for, and its answer has at most two pieces
+abbrev pub most_after_notify : NotifyRead → ℕ
+most_after_notify (Head base) = 1280
+most_after_notify (EntryRead e) = 5 * e.later + 3

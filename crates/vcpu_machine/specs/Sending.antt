@@ -1,0 +1,103 @@
+-- What follows the fetches of sendv.
+use Rattle.std.specs.Prelude.{◌≡◌, ℕ, ◌+◌, ◌-◌, ◌*◌, ◌<◌, ◌≤◌, List, [], ◌++◌, length, map, sum_by, Option, Some, None, Result, Ok, Err}
+use Rattle.std.specs.List.{range_with_len}
+use Rattle.argo_base.specs.declared.errno.Errno.{Errno}
+use Rattle.argo_base.specs.declared.errno.Errno.TheVariants.{Fault as efault}
+use Rattle.argo_base.specs.Pieces.{pieces}
+use Rattle.argo_base.specs.Iovs.{Iov, iov_at, iovs_at, verdict_of, judged, gathered_pieces}
+use Rattle.argo_base.specs.Limits.{longest_body}
+use Rattle.argo_model.specs.declared.action.Action.{Action}
+use Rattle.argo_model.specs.declared.action.Action.TheVariants.{Deliver}
+use Rattle.argo_model.specs.declared.action.Load.{Load}
+use Rattle.argo_model.specs.declared.action.Load.TheVariants.{Faulted, Refused as RefusedLoad}
+use Rattle.vcpu_machine.specs.declared.reads.Address.{Address}
+use Rattle.vcpu_machine.specs.declared.reads.Gather.{Gather}
+use Rattle.vcpu_machine.specs.declared.reads.SendRead.{SendRead}
+use Rattle.vcpu_machine.specs.declared.reads.SendRead.TheVariants.{Head, Iovs, Body}
+use Rattle.argo_model.specs.Programs.Asks.{Rests, ask, refusal}
+use Rattle.argo_model.specs.Programs.Send.{say_accepted, gather, send_head}
+
+-- the act that delivers a load to an address
+abbrev pub delivered_to : Address → Load → Action
+delivered_to a load = Deliver a.port a.to a.to_port a.kind load
+
+-- the load is delivered
+abbrev pub deliver_to : Address → Load → Rests
+deliver_to a load os = ask (delivered_to a load) say_accepted os
+
+-- the verdict on the iovs is followed
+abbrev pub send_judged_to : Address → List Iov → Result ℕ Errno → Rests
+send_judged_to a iovs (Err e) os = deliver_to a (RefusedLoad e) os
+send_judged_to a iovs (Ok n) os = gather (gathered_pieces iovs) [] n (deliver_to a) os
+
+-- the iovs of a list from a place on, up to a count
+abbrev pub iovs_from : List ℕ → ℕ → ℕ → List Iov
+iovs_from list place count = map (iov_at list) (range_with_len place (count - place))
+
+-- those that a gather has still to come to
+abbrev pub iovs_left : Gather → List Iov
+iovs_left g = iovs_from g.list.items g.next g.count
+
+-- the bytes of those iovs
+abbrev pub bytes_of : List Iov → ℕ
+bytes_of iovs = sum_by (λ v. v.len) iovs
+
+-- from a place on, this is the first buffer that has bytes
+pub record IsFirstBuffer (list : List ℕ) (count from place : ℕ) : Type 0 where
+  pub within : place < count
+  pub some : 0 < (iov_at list place).len
+  pub pieces_are : gathered_pieces (iovs_from list from count) ≡ pieces (iov_at list place).hnd (iov_at list place).len ++ gathered_pieces (iovs_from list (place + 1) count)
+  pub bytes_are : bytes_of (iovs_from list from count) ≡ (iov_at list place).len + bytes_of (iovs_from list (place + 1) count)
+
+-- from a place on, no buffer has bytes, or this is the first
+abbrev pub IsNextBuffer : List ℕ → ℕ → ℕ → Option ℕ → Type 0
+IsNextBuffer list count from None = (gathered_pieces (iovs_from list from count) ≡ []) × (bytes_of (iovs_from list from count) ≡ 0)
+IsNextBuffer list count from (Some place) = IsFirstBuffer list count from place
+
+-- the buffers from a place up to another have no bytes
+pub record SkipsTo (list : List ℕ) (count from place : ℕ) : Type 0 where
+  pub pieces_are : gathered_pieces (iovs_from list from count) ≡ gathered_pieces (iovs_from list place count)
+  pub bytes_are : bytes_of (iovs_from list from count) ≡ bytes_of (iovs_from list place count)
+
+-- the iovs up to a place are passed, with so many bytes
+pub record PassesTo (list : List ℕ) (count place size : ℕ) : Type 0 where
+  pub verdict_is : verdict_of (iovs_at list count) ≡ judged size (iovs_from list place count)
+  pub size_within : size ≤ longest_body
+
+-- the iovs are all there, and the body is no longer than the longest
+pub record IsGather (g : Gather) : Type 0 where
+  pub list_size : length g.list.items ≡ 16 * g.count
+  pub next_within : g.next ≤ g.count
+  pub size_within : g.size ≤ longest_body
+  pub later_is : g.later ≡ bytes_of (iovs_left g)
+  pub later_within : g.later ≤ g.size
+
+-- what follows the bytes
+abbrev pub after_send_read : SendRead → List ℕ → Rests
+after_send_read (Head caller iovs count kind) addr os = send_head caller iovs count kind addr os
+after_send_read (Iovs count a) list os = send_judged_to a (iovs_at list count) (verdict_of (iovs_at list count)) os
+after_send_read (Body g) got os = gather (gathered_pieces (iovs_left g)) got g.size (deliver_to g.address) os
+
+-- what follows a page that is not there: a refusal, but a gather is delivered as one that met a fault
+abbrev pub after_send_fault : SendRead → Rests
+after_send_fault (Head caller iovs count kind) os = refusal efault
+after_send_fault (Iovs count a) os = refusal efault
+after_send_fault (Body g) os = deliver_to g.address (Faulted g.size) os
+
+-- how many bytes there are
+abbrev pub send_size : SendRead → ℕ
+send_size (Head caller iovs count kind) = 16
+send_size (Iovs count a) = 16 * count
+send_size (Body g) = g.size - g.later
+
+-- there are at most 8 iovs, and a gather is as it must be
+abbrev pub IsSendRead : SendRead → Type 0
+IsSendRead (Head caller iovs count kind) = count ≤ 8
+IsSendRead (Iovs count a) = count ≤ 8
+IsSendRead (Body g) = IsGather g
+
+-- how many actions follow the bytes at most: a gather has at most 4,111 pieces
+abbrev pub most_after_send : SendRead → ℕ
+most_after_send (Head caller iovs count kind) = 4115
+most_after_send (Iovs count a) = 4112
+most_after_send (Body g) = length (gathered_pieces (iovs_left g)) + 1

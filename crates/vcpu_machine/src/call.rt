@@ -1,0 +1,125 @@
+//! The hypercall argo_op, by its command.
+
+ghost use Rattle.std.specs.Prelude.{◌≡◌};
+ghost use Rattle.argo_model.specs.Programs.Asks.{refuse_at_once};
+ghost use Rattle.argo_model.specs.Programs.Program.{op, command_of, caller_of as the_caller};
+ghost use Rattle.argo_model.specs.Programs.Register.{register_ring as registers, unregister_ring as unregisters, has_more as more_than_one};
+ghost use Rattle.argo_model.specs.Programs.Send.{sendv as sends};
+ghost use Rattle.argo_model.specs.Programs.Notify.{notify as notifies};
+ghost use Rattle.vcpu_machine.specs.Followed.{Leads};
+ghost use Rattle.vcpu_machine.specs.declared.phase.Followed.{Followed};
+
+use crate::blank::Blank;
+use crate::cursor::Cursor;
+use crate::phase::{Phase, Question, Reader};
+use crate::reading::reading;
+use crate::reads::{RegisterRead, SendRead};
+use argo_base::{DomId, Errno};
+use argo_model::Actor;
+
+/// The rings that one notify sweeps at most.
+const MOST_SWEEPS: u32 = 128;
+
+/// The buffers that one sendv takes at most.
+const MOST_IOVS: u64 = 8;
+
+/// The hypercall argo_op: its caller and its arguments.
+#[derive(Clone, Copy)]
+pub(crate) struct Call {
+    pub(crate) caller: DomId,
+    pub(crate) a1: u64,
+    pub(crate) a2: u64,
+    pub(crate) a3: u64,
+    pub(crate) a4: u64,
+}
+
+impl Call {
+    /// The phase at which the call of this command begins.
+    pub(crate) fn start(&self, blank: Blank, command: u64) -> Phase
+        ensures { Leads (op self.now.caller (command_of command) self.now.a1 self.now.a2 self.now.a3 self.now.a4) 8700 (Followed.To result) }
+    {
+        match command {
+            1 => self.register_ring(blank),
+            2 => self.unregister_ring(blank),
+            3 => self.sendv(blank),
+            4 => self.notify(),
+            _ => refuse(Errno::OpNotSupp),
+        }
+    }
+
+    fn register_ring(&self, blank: Blank) -> Phase
+        ensures { Leads (registers self.now.a1 self.now.a2 self.now.a3 self.now.a4) 13 (Followed.To result) }
+    {
+        if 1 < self.a4 {
+            return refuse(Errno::Inval);
+        }
+        let read = RegisterRead::Head {
+            list: self.a2,
+            count: self.a3,
+            flags: self.a4,
+        };
+        reading(blank, Cursor::over(self.a1, 12), Reader::Register(read))
+    }
+
+    fn unregister_ring(&self, blank: Blank) -> Phase
+        ensures { Leads (unregisters self.now.a1 self.now.a2 self.now.a3 self.now.a4) 3 (Followed.To result) }
+    {
+        if self.has_more() {
+            return refuse(Errno::Inval);
+        }
+        let read = RegisterRead::Old;
+        reading(blank, Cursor::over(self.a1, 8), Reader::Register(read))
+    }
+
+    fn sendv(&self, blank: Blank) -> Phase
+        ensures { Leads (sends self.now.caller self.now.a1 self.now.a2 self.now.a3 self.now.a4) 4117 (Followed.To result) }
+    {
+        if MOST_IOVS < self.a3 || 0x1_0000_0000 <= self.a4 {
+            return refuse(Errno::Inval);
+        }
+        let read = SendRead::Head {
+            caller: self.caller,
+            iovs: self.a2,
+            count: self.a3 as u32,
+            kind: self.a4 as u32,
+        };
+        reading(blank, Cursor::over(self.a1, 16), Reader::Send(read))
+    }
+
+    fn notify(&self) -> Phase
+        ensures { Leads (notifies self.now.a1 self.now.a2 self.now.a3 self.now.a4) 1410 (Followed.To result) }
+    {
+        if self.has_more() {
+            return refuse(Errno::Inval);
+        }
+        Phase::Asking(Question::Sweep {
+            base: self.a1,
+            after: 0,
+            later: MOST_SWEEPS - 1,
+        })
+    }
+
+    // Whether an argument is given besides the first.
+    fn has_more(&self) -> bool
+        ensures { result ≡ more_than_one self.now.a2 self.now.a3 self.now.a4 }
+    {
+        self.a2 != 0 || self.a3 != 0 || self.a4 != 0
+    }
+}
+
+/// The domain of an actor; the control section has none.
+pub(crate) fn caller_of(actor: Actor) -> DomId
+    ensures { result ≡ the_caller actor }
+{
+    match actor {
+        Actor::Vcpu(dom, _) => dom,
+        Actor::Control => DomId::ANY,
+    }
+}
+
+// The call is refused without any other action.
+fn refuse(e: Errno) -> Phase
+    ensures { Leads (refuse_at_once e) 1 (Followed.To result) }
+{
+    Phase::Asking(Question::Refuse(e))
+}

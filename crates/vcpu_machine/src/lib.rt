@@ -1,0 +1,29 @@
+//! The progress of one section of a script: the next action of its current line, and what follows its outcome.
+//!
+//! The layer above uses one contract: `Vcpu::next` and `Vcpu::feed` are the line's program, action by action, and `Vcpu::step` is one
+//! step of the run over any access that tells its state. It stands on argo_base, argo_abi and argo_model.
+#![tactic(auto)]
+
+mod blank;
+mod call;
+mod copies;
+mod cursor;
+mod fetch;
+mod layout;
+mod line;
+mod notify;
+mod phase;
+mod question;
+mod ranges;
+mod reader;
+mod reading;
+mod reads;
+mod recv;
+mod register;
+mod send;
+mod short;
+mod text;
+mod vcpu;
+
+pub use short::short_of;
+pub use vcpu::Vcpu;

@@ -1,0 +1,111 @@
+//! A line from its first action to its reply.
+
+ghost use Rattle.std.specs.Prelude.{◌≡◌, ◌<◌, ◌≤◌, List, [], ◌∷◌, IsTrue, IfOk, IsOk, OnOk, IfNone};
+ghost use Rattle.argo_model.specs.Rules.Fit.{is_fit};
+ghost use Rattle.argo_model.specs.Programs.Program.{Do};
+
+use crate::blank::Blank;
+use crate::call::{Call, caller_of};
+use crate::cursor::Cursor;
+use crate::fetch::{fetch_first, fetched};
+use crate::phase::{Followed, Phase, Question, Reader, Text};
+use crate::reading::reading;
+use crate::recv;
+use argo_base::NoMemory;
+use argo_model::{Action, Actor, Line, Outcome, Reply};
+use std::alloc::Global;
+use std::mem;
+
+impl Phase {
+    ghost use Rattle.argo_model.specs.Programs.Program.{program};
+    ghost use Rattle.vcpu_machine.specs.Steps.{most_steps};
+    ghost use Rattle.vcpu_machine.specs.Phase.{rest_of, takes_none, IsAtPhase, HasRoom, CanFollow, GoesOnAlike, phase_left, fed_to, is_line_for};
+    ghost use Rattle.vcpu_machine.specs.Followed.{Follows};
+    ghost use Rattle.argo_model.specs.declared.action.Outcome.{Outcome as AnyOutcome};
+
+    /// The phase at which a line of an actor begins.
+    pub(crate) fn start(blank: Blank, actor: Actor, line: &Line) -> Phase
+        requires { IsTrue (is_line_for actor line.now) }
+        ensures at_phase { IsAtPhase line.now result }
+        ensures starts { (os : List AnyOutcome) → program actor line.now os ≡ rest_of line.now result os }
+        ensures few { phase_left result ≤ most_steps line.now }
+    {
+        match line {
+            Line::Store { at, bytes } => Phase::Writing {
+                rest: Cursor::over(*at, bytes.len() as u32),
+                text: Text::Stored,
+            },
+            Line::Load { at, n } => reading(blank, Cursor::over(*at, *n), Reader::Show),
+            Line::Op { c, a1, a2, a3, a4 } => {
+                let call = Call {
+                    caller: caller_of(actor),
+                    a1: *a1,
+                    a2: *a2,
+                    a3: *a3,
+                    a4: *a4,
+                };
+                call.start(blank, *c)
+            }
+            Line::Await { turns } => Phase::Asking(Question::Look { later: *turns - 1 }),
+            Line::Recv { page, len } => recv::start(blank, *page, *len),
+            Line::Destroy { dom } => Phase::Asking(Question::Destroy(*dom)),
+            Line::Reset { dom } => Phase::Asking(Question::Reset(*dom)),
+            Line::Create { dom } => Phase::Asking(Question::Create(*dom)),
+        }
+    }
+
+    /// The next action, with the memory that its outcome will want.
+    pub(crate) fn next(&mut self, alloc: Global, line: &Line) -> Result<Action, NoMemory>
+        requires { IsAtPhase line.now self.old }
+        ensures action { IfOk result (λ a. rest_of line.now self.old [] ≡ Do a) }
+        ensures fit { IfOk result (λ a. IsTrue (is_fit a)) }
+        ensures alike { GoesOnAlike line.now self.old self.new }
+        ensures room { OnOk result (HasRoom self.new) }
+        ensures keeps { HasRoom self.old → HasRoom self.new }
+        ensures given { IsTrue (takes_none (rest_of line.now self.old [])) → IsOk result }
+    {
+        match self {
+            Phase::Reading { rest, got, reader } => {
+                got.reserve(reader.room(rest.left))?;
+                Ok(fetch_first(*rest))
+            }
+            Phase::Writing { rest, text } => text.put_first(alloc, line, *rest),
+            Phase::Asking(question) => question.action(alloc),
+            Phase::Ended => unreachable!(),
+        }
+    }
+
+    /// Takes the outcome of the next action, and answers the reply where the line then has it.
+    pub(crate) fn feed(&mut self, blank: Blank, line: &Line, outcome: &Outcome) -> Option<Reply>
+        requires at_phase { IsAtPhase line.now self.old }
+        requires room { HasRoom self.old }
+        requires can { CanFollow (rest_of line.now self.old []) outcome.now }
+        ensures fed { (os : List AnyOutcome) → rest_of line.now self.old (outcome.now ∷ os) ≡ fed_to line.now self.new result os }
+        ensures at_phase { IfNone result (IsAtPhase line.now self.new) }
+        ensures nearer { IfNone result (phase_left self.new < phase_left self.old) }
+    {
+        let phase = mem::replace(self, Phase::Ended);
+        match phase.fed(blank, line, outcome) {
+            Followed::To(phase) => {
+                *self = phase;
+                None
+            }
+            Followed::Over(reply) => Some(reply),
+        }
+    }
+
+    // Where the line goes with an outcome.
+    fn fed(self, blank: Blank, line: &Line, outcome: &Outcome) -> Followed
+        requires at_phase { IsAtPhase line.now self }
+        requires room { HasRoom self }
+        requires can { CanFollow (rest_of line.now self []) outcome.now }
+        ensures { Follows line.now self outcome.now result }
+    {
+        match self {
+            Phase::Reading { rest, got, reader } => fetched(blank, rest, got, reader, outcome),
+            Phase::Writing { rest, text } => text.moved(blank, line, rest, outcome),
+            Phase::Asking(question) => question.asked(blank, outcome),
+            Phase::Ended => unreachable!(),
+        }
+    }
+}

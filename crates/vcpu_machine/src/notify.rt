@@ -1,0 +1,139 @@
+//! The call notify.
+
+ghost use Rattle.std.specs.Prelude.{◌≡◌, ◌+◌, ◌*◌, ◌<◌, length};
+ghost use Rattle.vcpu_machine.specs.Entries.{places_from, most_of_notify};
+ghost use Rattle.vcpu_machine.specs.Followed.{Leads};
+ghost use Rattle.argo_model.specs.Programs.Notify.{sweep_rings, notify_head, notify_entries, answer_entries, answer_entry};
+
+use crate::blank::Blank;
+use crate::cursor::Cursor;
+use crate::layout::{read_u16, read_u32};
+use crate::phase::{Followed, Phase, Question, Reader, Text};
+use crate::reading::{reading, refusal};
+use crate::reads::{Entry, NotifyRead};
+use argo_base::{DomId, Errno};
+use argo_model::{Outcome, Reply};
+
+/// The entries that one notify answers at most.
+const MOST_ENTRIES: u32 = 256;
+
+impl Entry {
+    ghost use Rattle.vcpu_machine.specs.Entries.{entry_at, places_after, IsEntry};
+    ghost use Rattle.argo_model.specs.Programs.Notify.{if_answered};
+
+    /// Where the call goes after this entry.
+    pub(crate) fn next(self, blank: Blank) -> Followed
+        requires { IsEntry self }
+        ensures { Leads (answer_entries (places_after self)) (5 * self.later) result }
+    {
+        entries(blank, self.base, self.place + 1, self.later)
+    }
+
+    // Asks for room as the entry says.
+    fn ask(self, entry: &[u8]) -> Followed
+        requires ready { IsEntry self }
+        requires size { length entry.now ≡ 20 }
+        ensures { Leads (answer_entry (entry_at self) entry.now (answer_entries (places_after self))) (5 * self.later + 3) result }
+    {
+        if read_u16(entry, 6) != 0 || read_u16(entry, 10) != 0 {
+            return Followed::Over(refusal(Errno::Inval));
+        }
+        Followed::To(Phase::Asking(Question::Query {
+            entry: self,
+            to: DomId(read_u16(entry, 4)),
+            to_port: read_u32(entry, 0),
+            need: read_u32(entry, 12),
+        }))
+    }
+
+    /// Where the call goes when it was asked for room.
+    pub(crate) fn answered(self, blank: Blank, outcome: &Outcome) -> Followed
+        requires { IsEntry self }
+        ensures { Leads (if_answered (entry_at self) (answer_entries (places_after self)) outcome.now) (5 * self.later + 2) result }
+    {
+        match outcome {
+            Outcome::Answer(answer) => Followed::To(Phase::Writing {
+                rest: Cursor::beyond(self.base, 16 + 20 * self.place, 12),
+                text: Text::Answer {
+                    answer: *answer,
+                    entry: self,
+                },
+            }),
+            Outcome::Refused(e) => Followed::Over(refusal(*e)),
+            _ => self.next(blank),
+        }
+    }
+}
+
+impl NotifyRead {
+    ghost use Rattle.vcpu_machine.specs.Notifying.{after_notify_read, notify_size, IsNotifyRead, most_after_notify};
+
+    /// Where the call goes with the bytes.
+    pub(crate) fn used(self, blank: Blank, got: &[u8]) -> Followed
+        requires ready { IsNotifyRead self }
+        requires size { length got.now ≡ notify_size self }
+        ensures { Leads (after_notify_read self got.now) (most_after_notify self) result }
+    {
+        match self {
+            NotifyRead::Head { base } => head(blank, base, got),
+            NotifyRead::Entry(entry) => entry.ask(got),
+        }
+    }
+}
+
+/// Where a notify goes that has so many sweeps to come, of the rings after a serial.
+pub(crate) fn sweep(blank: Blank, base: u64, after: u64, count: u32) -> Followed
+    ensures { Leads (sweep_rings count after (notify_entries base)) (count + most_of_notify) result }
+{
+    if count == 0 {
+        return begin(blank, base);
+    }
+    Followed::To(Phase::Asking(Question::Sweep {
+        base,
+        after,
+        later: count - 1,
+    }))
+}
+
+/// Where a notify goes when no ring is left to be swept.
+pub(crate) fn begin(blank: Blank, base: u64) -> Followed
+    ensures { Leads (notify_entries base) most_of_notify result }
+{
+    if base == 0 {
+        return Followed::Over(Reply::Number(0));
+    }
+    let rest = Cursor::over(base, 8);
+    Followed::To(reading(blank, rest, Reader::Notify(NotifyRead::Head { base })))
+}
+
+// After the 8 bytes that count the entries.
+fn head(blank: Blank, base: u64, head: &[u8]) -> Followed
+    requires { length head.now ≡ 8 }
+    ensures { Leads (notify_head base head.now) 1280 result }
+{
+    if read_u32(head, 4) != 0 {
+        return Followed::Over(refusal(Errno::Inval));
+    }
+    let count = read_u32(head, 0);
+    if MOST_ENTRIES < count {
+        return Followed::Over(refusal(Errno::Acces));
+    }
+    entries(blank, base, 0, count)
+}
+
+// So many entries from a place on.
+fn entries(blank: Blank, base: u64, place: u32, count: u32) -> Followed
+    requires { place + count < 257 }
+    ensures { Leads (answer_entries (places_from base place count)) (5 * count) result }
+{
+    if count == 0 {
+        return Followed::Over(Reply::Number(0));
+    }
+    let entry = Entry {
+        base,
+        place,
+        later: count - 1,
+    };
+    let rest = Cursor::beyond(base, 8 + 20 * place, 20);
+    Followed::To(reading(blank, rest, Reader::Notify(NotifyRead::Entry(entry))))
+}

@@ -1,0 +1,96 @@
+//! How far a line is, in place of all the outcomes that it has had.
+
+use crate::cursor::Cursor;
+use crate::reads::{Address, Entry, NewRing, NotifyRead, RecvRead, RegisterRead, SendRead};
+use argo_base::{DomId, Errno};
+use argo_model::{Answer, Load, Reply};
+
+/// What a range of guest memory is fetched for.
+#[derive(Drop)]
+pub(crate) enum Reader {
+    /// A load shows the bytes.
+    Show,
+    Register(RegisterRead),
+    Send(SendRead),
+    Notify(NotifyRead),
+    Recv(RecvRead),
+}
+
+/// What is put into a range of guest memory.
+#[derive(Drop)]
+pub(crate) enum Text {
+    /// The bytes of a store.
+    Stored,
+    /// What notify answers in an entry.
+    Answer { answer: Answer, entry: Entry },
+    /// A ring's rx word, and the message that was taken.
+    Taken { rx: u32, reply: Reply },
+}
+
+/// A single action of a line, and what it is for.
+#[derive(Drop)]
+pub(crate) enum Question {
+    /// A rest before a refusal.
+    Refuse(Errno),
+    /// A look at the flag, with so many to come.
+    Look {
+        later: u32,
+    },
+    Destroy(DomId),
+    Reset(DomId),
+    Create(DomId),
+    Unregister {
+        port: u32,
+        partner: DomId,
+    },
+    /// The page list is as it was read.
+    Register {
+        ring: NewRing,
+        list: Vec<u8>,
+    },
+    Deliver {
+        address: Address,
+        load: Load,
+    },
+    /// A sweep of the ring after a serial, with so many to come. The entries of the notify are at `base`.
+    Sweep {
+        base: u64,
+        after: u64,
+        later: u32,
+    },
+    Query {
+        entry: Entry,
+        to: DomId,
+        to_port: u32,
+        need: u32,
+    },
+}
+
+/// How far a line is.
+#[derive(Drop)]
+pub(crate) enum Phase {
+    /// What is left of a range is to be fetched, after the bytes that were fetched so far.
+    Reading {
+        rest: Cursor,
+        got: Vec<u8>,
+        reader: Reader,
+    },
+    /// What is left of a range is to be put: the last bytes of the text.
+    Writing {
+        rest: Cursor,
+        text: Text,
+    },
+    /// A single action is to come.
+    Asking(Question),
+    /// No line is left.
+    Ended,
+}
+
+/// Where a line goes after an outcome.
+#[derive(Drop)]
+pub(crate) enum Followed {
+    /// To its next action.
+    To(Phase),
+    /// It is over, with its reply.
+    Over(Reply),
+}

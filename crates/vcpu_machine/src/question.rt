@@ -1,0 +1,159 @@
+//! The single actions of lines, and what follows them.
+
+ghost use Rattle.std.specs.Prelude.{◌≡◌, ◌+◌, IfOk, IsOk, IsTrue};
+ghost use Rattle.argo_model.specs.Rules.Fit.{is_fit};
+ghost use Rattle.argo_model.specs.Programs.Asks.{Do, say_done};
+ghost use Rattle.argo_model.specs.Programs.Send.{say_accepted};
+ghost use Rattle.argo_model.specs.Programs.Program.{if_flag, await};
+ghost use Rattle.argo_model.specs.Programs.Notify.{if_swept, sweep_rings, notify_entries};
+ghost use Rattle.vcpu_machine.specs.Entries.{most_of_notify};
+ghost use Rattle.vcpu_machine.specs.Followed.{Leads};
+
+use crate::blank::Blank;
+use crate::layout::read_numbers;
+use crate::notify;
+use crate::phase::{Followed, Phase, Question};
+use crate::reading::refusal;
+use crate::register::page_count;
+use argo_base::{Bytes, NoMemory};
+use argo_model::{Action, Load, Outcome, Reply};
+use std::alloc::Global;
+
+impl Question {
+    ghost use Rattle.vcpu_machine.specs.Question.{action_of, answered_by, IsQuestion, most_after_answer};
+    ghost use Rattle.vcpu_machine.specs.Followed.{Follows};
+    ghost use Rattle.vcpu_machine.specs.Phase.{takes_none};
+    ghost use Rattle.argo_model.specs.declared.line.Line.{Line as AnyLine};
+
+    /// The action, with copies of what it takes.
+    pub(crate) fn action(&self, alloc: Global) -> Result<Action, NoMemory>
+        requires { IsQuestion self.now }
+        ensures is { IfOk result (λ a. a ≡ action_of self.now) }
+        ensures fit { IfOk result (λ a. IsTrue (is_fit a)) }
+        ensures given { IsTrue (takes_none (Do (action_of self.now))) → IsOk result }
+    {
+        match self {
+            Question::Refuse(_) => Ok(Action::Rest),
+            Question::Look { .. } => Ok(Action::Look),
+            Question::Destroy(dom) => Ok(Action::Destroy { dom: *dom }),
+            Question::Reset(dom) => Ok(Action::Reset { dom: *dom }),
+            Question::Create(dom) => Ok(Action::Create { dom: *dom }),
+            Question::Unregister { port, partner } => Ok(Action::Unregister {
+                port: *port,
+                partner: *partner,
+            }),
+            Question::Register { ring, list } => {
+                let pages = read_numbers(alloc, list.as_slice(), page_count(ring.len))?;
+                Ok(ring.on(pages))
+            }
+            Question::Deliver { address, load } => {
+                let load = copy_of(alloc, load)?;
+                Ok(address.deliver(load))
+            }
+            Question::Sweep { after, .. } => Ok(Action::Sweep { after: *after }),
+            Question::Query {
+                to,
+                to_port,
+                need,
+                ..
+            } => Ok(Action::Query {
+                to: *to,
+                to_port: *to_port,
+                need: *need,
+            }),
+        }
+    }
+
+    /// Where a line goes that asks, with an outcome.
+    pub(crate) fn asked(self, blank: Blank, outcome: &Outcome) -> Followed
+        requires { IsQuestion self }
+        ensures { (line : AnyLine) → Follows line (Phase.Asking self) outcome.now result }
+    {
+        match outcome {
+            Outcome::Gone => Followed::Over(Reply::Gone),
+            _ => self.answered(blank, outcome),
+        }
+    }
+
+    // Where the line goes with an outcome other than `Gone`.
+    fn answered(self, blank: Blank, outcome: &Outcome) -> Followed
+        requires { IsQuestion self }
+        ensures { Leads (answered_by self outcome.now) (most_after_answer self) result }
+    {
+        match self {
+            Question::Refuse(e) => Followed::Over(refusal(e)),
+            Question::Look { later } => looked(outcome, later),
+            Question::Deliver { .. } => delivered(outcome),
+            Question::Sweep { base, later, .. } => swept(blank, outcome, base, later),
+            Question::Query { entry, .. } => entry.answered(blank, outcome),
+            _ => done(outcome),
+        }
+    }
+}
+
+// The same load once more.
+fn copy_of(alloc: Global, load: &Load) -> Result<Load, NoMemory>
+    ensures { IfOk result (λ copy. copy ≡ load.now) }
+{
+    match load {
+        Load::Body(bytes) => {
+            let copy = Bytes::copy_of(alloc, bytes.as_slice())?;
+            Ok(Load::Body(copy))
+        }
+        Load::Faulted(n) => Ok(Load::Faulted(*n)),
+        Load::Refused(e) => Ok(Load::Refused(*e)),
+    }
+}
+
+// After an act that is done or refused.
+fn done(outcome: &Outcome) -> Followed
+    ensures { Leads (say_done outcome.now) 0 result }
+{
+    match outcome {
+        Outcome::Refused(e) => Followed::Over(refusal(*e)),
+        _ => Followed::Over(Reply::Number(0)),
+    }
+}
+
+// After a look, with so many to come.
+fn looked(outcome: &Outcome, later: u32) -> Followed
+    ensures { Leads (if_flag (await later) outcome.now) later result }
+{
+    match outcome {
+        Outcome::Flag(true) => Followed::Over(Reply::Signal),
+        Outcome::Flag(false) => look(later),
+        _ => look(later),
+    }
+}
+
+// With so many looks to come.
+fn look(later: u32) -> Followed
+    ensures { Leads (await later) later result }
+{
+    if later == 0 {
+        return Followed::Over(Reply::NoSignal);
+    }
+    Followed::To(Phase::Asking(Question::Look { later: later - 1 }))
+}
+
+// After a delivery.
+fn delivered(outcome: &Outcome) -> Followed
+    ensures { Leads (say_accepted outcome.now) 0 result }
+{
+    match outcome {
+        Outcome::Refused(e) => Followed::Over(refusal(*e)),
+        Outcome::Accepted(n) => Followed::Over(Reply::Number(i64::from(*n))),
+        _ => Followed::Over(Reply::Number(0)),
+    }
+}
+
+// After a sweep, with so many to come.
+fn swept(blank: Blank, outcome: &Outcome, base: u64, later: u32) -> Followed
+    ensures { Leads (if_swept (λ serial. sweep_rings later serial (notify_entries base)) (notify_entries base) outcome.now) (later + most_of_notify) result }
+{
+    match outcome {
+        Outcome::Swept(serial) => notify::sweep(blank, base, *serial, later),
+        Outcome::Refused(e) => Followed::Over(refusal(*e)),
+        _ => notify::begin(blank, base),
+    }
+}

@@ -1,0 +1,70 @@
+//! One outcome of a range that is put or fetched piece by piece.
+
+ghost use Rattle.std.specs.Prelude.{◌≡◌, ◌+◌, ◌-◌, ◌<◌, ◌≤◌, min, length, vec_len, vec_capacity};
+ghost use Rattle.vcpu_machine.specs.Cursor.{IsSound, pieces_left};
+ghost use Rattle.vcpu_machine.specs.Ranges.{Advances, PutMoves, FetchMoves, IsNearer, IsCounted, GivesFirst};
+
+use crate::cursor::Cursor;
+use argo_model::Outcome;
+
+/// What an outcome of the first piece of a range comes to.
+#[derive(Clone, Copy, Debug)]
+pub(crate) enum Moved {
+    /// The rest of the range is to come.
+    More,
+    /// It was the last piece.
+    Whole,
+    /// The page is not there.
+    Failed,
+    /// The caller's domain is gone.
+    Ended,
+}
+
+/// Moves a range that is put on by an outcome of its first piece.
+pub(crate) fn put_moved(rest: &mut Cursor, outcome: &Outcome) -> Moved
+    requires some { 0 < rest.old.left }
+    requires sound { IsSound rest.old }
+    ensures moves { PutMoves rest.old outcome.now result rest.new }
+    ensures nearer { IsNearer result rest.old rest.new }
+{
+    match outcome {
+        Outcome::Done => advance(rest),
+        Outcome::Gone => Moved::Ended,
+        _ => Moved::Failed,
+    }
+}
+
+/// Moves a range that is fetched on by an outcome of its first piece. What was fetched so far, `got`, has room for the piece.
+pub(crate) fn fetch_moved(rest: &mut Cursor, got: &mut Vec<u8>, outcome: &Outcome) -> Moved
+    requires some { 0 < rest.old.left }
+    requires sound { IsSound rest.old }
+    requires room { vec_len got.old + min rest.old.left (4096 - rest.old.off) ≤ vec_capacity got.old }
+    requires first { GivesFirst rest.old outcome.now }
+    ensures moves { FetchMoves rest.old got.old.items outcome.now result rest.new got.new.items }
+    ensures nearer { IsNearer result rest.old rest.new }
+    ensures counted { IsCounted result (length got.old.items) rest.old.left (length got.new.items) rest.new.left }
+{
+    match outcome {
+        Outcome::Bytes(bytes) => {
+            got.extend_from_slice(bytes.as_slice()).unwrap();
+            advance(rest)
+        }
+        Outcome::Gone => Moved::Ended,
+        _ => Moved::Failed,
+    }
+}
+
+// Leaves the first piece behind.
+fn advance(rest: &mut Cursor) -> Moved
+    requires some { 0 < rest.old.left }
+    requires sound { IsSound rest.old }
+    ensures { Advances rest.old result rest.new }
+{
+    let (_, later) = rest.split_first();
+    *rest = later;
+    if later.left == 0 {
+        Moved::Whole
+    } else {
+        Moved::More
+    }
+}

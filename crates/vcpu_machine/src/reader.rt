@@ -1,0 +1,62 @@
+//! What follows a range that is fetched.
+
+ghost use Rattle.std.specs.Prelude.{ℕ, ◌+◌, ◌≤◌, min, length};
+
+use crate::blank::Blank;
+use crate::phase::{Followed, Reader};
+use crate::reading::refusal;
+use argo_base::{Bytes, Errno};
+use argo_model::Reply;
+
+impl Reader {
+    ghost use Rattle.vcpu_machine.specs.Reader.{after_read, after_fault, HasSize, KeepsUse, IsReader, most_after};
+    ghost use Rattle.vcpu_machine.specs.Followed.{Leads};
+
+    /// The room that a range takes of which so many bytes are left, with the ranges that follow it.
+    pub(crate) fn room(&self, left: u32) -> usize
+        ensures { min left 4096 ≤ result }
+    {
+        match self {
+            Reader::Send(read) => left as usize + read.later() as usize,
+            Reader::Recv(read) => read.room(left),
+            _ => left as usize,
+        }
+    }
+
+    /// Drops bytes that the line has no use for.
+    pub(crate) fn trim(&self, got: &mut Vec<u8>)
+        ensures same { KeepsUse self.now got.old.items got.new.items }
+        ensures size { (n : ℕ) → HasSize (length got.old.items + n) self.now → HasSize (length got.new.items + n) self.now }
+    {
+        if let Reader::Recv(read) = self {
+            read.trim(got);
+        }
+    }
+
+    /// Where the line goes with all the bytes of the range, and those that were fetched before.
+    pub(crate) fn used(self, blank: Blank, got: Vec<u8>) -> Followed
+        requires ready { IsReader self }
+        requires size { HasSize (length got.items) self }
+        ensures { Leads (after_read self got.items) (most_after self) result }
+    {
+        match self {
+            Reader::Show => Followed::Over(Reply::Hex(Bytes::from_vec(got))),
+            Reader::Register(read) => read.used(blank, got),
+            Reader::Send(read) => read.used(blank, got),
+            Reader::Notify(read) => read.used(blank, got.as_slice()),
+            Reader::Recv(read) => read.used(blank, got),
+        }
+    }
+
+    /// Where the line goes when a page is not there.
+    pub(crate) fn failed(self) -> Followed
+        requires ready { IsReader self }
+        ensures { Leads (after_fault self) (most_after self) result }
+    {
+        match self {
+            Reader::Show | Reader::Recv(_) => Followed::Over(Reply::Fault),
+            Reader::Register(_) | Reader::Notify(_) => Followed::Over(refusal(Errno::Fault)),
+            Reader::Send(read) => read.failed(),
+        }
+    }
+}

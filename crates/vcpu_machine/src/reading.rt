@@ -1,0 +1,35 @@
+//! A range that is fetched, and a refusal.
+
+ghost use Rattle.std.specs.Prelude.{◌≡◌, ◌<◌};
+ghost use Rattle.argo_model.specs.Programs.Asks.{Say, refusal as refusal_of};
+ghost use Rattle.vcpu_machine.specs.Cursor.{pieces_left, IsSound};
+ghost use Rattle.vcpu_machine.specs.Followed.{Reads};
+ghost use Rattle.vcpu_machine.specs.Reader.{HasSize, IsReader};
+
+use crate::blank::Blank;
+use crate::cursor::Cursor;
+use crate::phase::{Phase, Reader};
+use argo_base::Errno;
+use argo_model::Reply;
+
+/// The phase at which a range is to be fetched.
+pub(crate) fn reading(blank: Blank, rest: Cursor, reader: Reader) -> Phase
+    requires some { 0 < rest.left }
+    requires sound { IsSound rest }
+    requires size { HasSize rest.left reader }
+    requires ready { IsReader reader }
+    ensures { Reads (pieces_left rest) reader result }
+{
+    Phase::Reading {
+        rest,
+        got: blank.into_vec(),
+        reader,
+    }
+}
+
+/// A hypercall's refusal.
+pub(crate) fn refusal(e: Errno) -> Reply
+    ensures { Say result ≡ refusal_of e }
+{
+    Reply::Number(-i64::from(e.number()))
+}

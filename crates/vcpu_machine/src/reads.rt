@@ -1,0 +1,124 @@
+//! What the fetches of hypercalls and of recv are for.
+
+use crate::cursor::Cursor;
+use argo_base::DomId;
+
+/// A ring that is to be registered.
+#[derive(Clone, Copy)]
+pub(crate) struct NewRing {
+    pub(crate) port: u32,
+    pub(crate) partner: DomId,
+    pub(crate) len: u32,
+    /// Whether the call fails where the caller has the ring.
+    pub(crate) fail_exist: bool,
+}
+
+/// What the calls that register a ring, or take one away, read.
+#[derive(Clone, Copy)]
+pub(crate) enum RegisterRead {
+    /// The structure of unregister_ring.
+    Old,
+    /// The structure of register_ring: the call's further arguments.
+    Head { list: u64, count: u64, flags: u64 },
+    /// The page list of a ring.
+    Pages(NewRing),
+}
+
+/// Where a message goes: from a port of the caller to a port of a domain, and its type.
+#[derive(Clone, Copy)]
+pub(crate) struct Address {
+    pub(crate) port: u32,
+    pub(crate) to: DomId,
+    pub(crate) to_port: u32,
+    pub(crate) kind: u32,
+}
+
+/// What is left of a gather after the buffer that is being fetched: `count` iovs as they were read, from the place `next` on.
+#[derive(Drop)]
+pub(crate) struct Gather {
+    pub(crate) list: Vec<u8>,
+    pub(crate) count: u32,
+    pub(crate) next: u32,
+    /// The bytes of those iovs.
+    pub(crate) later: u32,
+    /// The size of the whole body.
+    pub(crate) size: u32,
+    pub(crate) address: Address,
+}
+
+/// What a sendv reads.
+#[derive(Drop)]
+pub(crate) enum SendRead {
+    /// The addresses. The iovs are at `iovs`.
+    Head {
+        caller: DomId,
+        iovs: u64,
+        count: u32,
+        kind: u32,
+    },
+    Iovs {
+        count: u32,
+        address: Address,
+    },
+    Body(Gather),
+}
+
+/// An entry of a notify: its place among those behind the 8 bytes at `base`, and how many follow it.
+#[derive(Clone, Copy)]
+pub(crate) struct Entry {
+    pub(crate) base: u64,
+    pub(crate) place: u32,
+    pub(crate) later: u32,
+}
+
+/// What a notify reads.
+#[derive(Clone, Copy)]
+pub(crate) enum NotifyRead {
+    /// The 8 bytes at `base`.
+    Head { base: u64 },
+    Entry(Entry),
+}
+
+/// The ring of a recv: its first page, and its slot bytes.
+#[derive(Clone, Copy)]
+pub(crate) struct OwnRing {
+    pub(crate) page: u32,
+    pub(crate) len: u32,
+}
+
+/// What the header of a message says, with the size of the body alone.
+#[derive(Clone, Copy)]
+pub(crate) struct Header {
+    pub(crate) src: DomId,
+    pub(crate) port: u32,
+    pub(crate) kind: u32,
+    pub(crate) size: u32,
+}
+
+/// What slot bytes are fetched for.
+#[derive(Clone, Copy)]
+pub(crate) enum Taking {
+    /// The header of the message at rx.
+    Head {
+        ring: OwnRing,
+        rx: u32,
+        tx: u32,
+    },
+    /// The body. The rx word that is put after it is `word`.
+    Body {
+        ring: OwnRing,
+        word: u32,
+        header: Header,
+    },
+}
+
+/// What a recv reads.
+#[derive(Clone, Copy)]
+pub(crate) enum RecvRead {
+    /// The rx word.
+    Rx(OwnRing),
+    /// The tx word, after the rx word.
+    Tx(OwnRing, u32),
+    /// Slot bytes, with those that follow behind the ring's end.
+    Slots { later: Cursor, taking: Taking },
+}

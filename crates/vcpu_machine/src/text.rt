@@ -1,0 +1,109 @@
+//! What is put into a range, and what follows it.
+
+ghost use Rattle.std.specs.Prelude.{◌≡◌, ◌<◌, ◌≤◌, [], length, IsTrue, IfOk};
+ghost use Rattle.vcpu_machine.specs.Cursor.{pieces_left, IsSound};
+ghost use Rattle.argo_model.specs.Rules.Fit.{is_fit};
+ghost use Rattle.argo_model.specs.Programs.Asks.{Say, Do, Next, Rests, put_all};
+ghost use Rattle.vcpu_machine.specs.Ranges.{last_of};
+ghost use Rattle.vcpu_machine.specs.Text.{stored_by};
+
+use crate::blank::Blank;
+use crate::cursor::Cursor;
+use crate::layout::answer_text;
+use crate::phase::{Followed, Phase, Text};
+use crate::ranges::{Moved, put_moved};
+use crate::reading::refusal;
+use argo_base::{Bytes, Errno, NoMemory};
+use argo_model::{Action, Line, Outcome, Reply};
+use std::alloc::Global;
+
+impl Text {
+    ghost use Rattle.vcpu_machine.specs.Text.{text_of, after_put, if_not_put, IsText, most_after_put};
+    ghost use Rattle.vcpu_machine.specs.Phase.{rest_of, IsWriting};
+    ghost use Rattle.vcpu_machine.specs.Followed.{Leads, Follows};
+
+    /// The put of the first piece of what is left of a range.
+    pub(crate) fn put_first(
+        &self,
+        alloc: Global,
+        line: &Line,
+        rest: Cursor,
+    ) -> Result<Action, NoMemory>
+        requires { IsWriting line.now rest self.now }
+        ensures is { IfOk result (λ a. rest_of line.now (Phase.Writing rest self.now) [] ≡ Do a) }
+        ensures fit { IfOk result (λ a. IsTrue (is_fit a)) }
+    {
+        match self {
+            Text::Stored => put_last(alloc, rest, stored(line)),
+            Text::Answer { answer, .. } => {
+                let bytes = answer_text(alloc, *answer)?;
+                put_last(alloc, rest, bytes.as_slice())
+            }
+            Text::Taken { rx, .. } => put_last(alloc, rest, &rx.to_le_bytes()),
+        }
+    }
+
+    /// Where a line goes that puts, with an outcome of the first piece.
+    pub(crate) fn moved(self, blank: Blank, line: &Line, rest: Cursor, outcome: &Outcome) -> Followed
+        requires { IsWriting line.now rest self }
+        ensures { Follows line.now (Phase.Writing rest self) outcome.now result }
+    {
+        let mut rest = rest;
+        match put_moved(&mut rest, outcome) {
+            Moved::More => Followed::To(Phase::Writing { rest, text: self }),
+            Moved::Whole => self.put(blank),
+            Moved::Failed => Followed::Over(self.failed()),
+            Moved::Ended => Followed::Over(Reply::Gone),
+        }
+    }
+
+    // Where the line goes when all is put.
+    fn put(self, blank: Blank) -> Followed
+        requires { IsText self }
+        ensures { Leads (after_put self) (most_after_put self) result }
+    {
+        match self {
+            Text::Stored => Followed::Over(Reply::Stored),
+            Text::Answer { entry, .. } => entry.next(blank),
+            Text::Taken { reply, .. } => Followed::Over(reply),
+        }
+    }
+
+    // The reply when a page is not there.
+    fn failed(self) -> Reply
+        ensures { Say result ≡ if_not_put self }
+    {
+        match self {
+            Text::Answer { .. } => refusal(Errno::Fault),
+            Text::Stored | Text::Taken { .. } => Reply::Fault,
+        }
+    }
+}
+
+// The bytes of a store.
+fn stored(line: &Line) -> &[u8]
+    ensures { result.now ≡ stored_by line.now }
+{
+    match line {
+        Line::Store { bytes, .. } => bytes.as_slice(),
+        _ => &[],
+    }
+}
+
+// The put of the first piece of what is left of a range, which takes the last of the bytes.
+fn put_last(alloc: Global, rest: Cursor, bytes: &[u8]) -> Result<Action, NoMemory>
+    requires some { 0 < rest.left }
+    requires sound { IsSound rest }
+    requires size { rest.left ≤ length bytes.now }
+    ensures is { IfOk result (λ a. (failed : Next) (k : Rests) → put_all (pieces_left rest) (last_of rest.left bytes.now) failed k [] ≡ Do a) }
+    ensures fit { IfOk result (λ a. IsTrue (is_fit a)) }
+{
+    let (piece, _) = rest.split_first();
+    let (_, left) = bytes.split_at(bytes.len() - rest.left as usize);
+    let (part, _) = left.split_at(piece.n as usize);
+    Ok(Action::Put {
+        page: piece.page,
+        off: piece.off,
+        bytes: Bytes::copy_of(alloc, part)?,
+    })
+}
