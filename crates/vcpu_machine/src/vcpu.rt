@@ -67,7 +67,8 @@ impl Vcpu {
 
     /// How many lines are done.
     pub fn done_lines(&self) -> u32
-        ensures { result ≡ self.now.done }
+        ensures is { result ≡ self.now.done }
+        ensures few { result ≤ 8192 }
     {
         self.done
     }

@@ -1,0 +1,5 @@
+pub mod Books
+pub mod Kept
+pub mod Machine
+pub mod Replies
+pub mod Vcpus

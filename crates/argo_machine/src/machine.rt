@@ -1,0 +1,145 @@
+//! The machine and what it keeps of a run.
+
+ghost use Rattle.std.specs.Prelude.{◌≡◌, ◌<◌, ◌^◌, ◌↔◌, [], false, IfOk, OnErr, IsTrue};
+ghost use Rattle.std.specs.List.{list_all};
+ghost use Rattle.argo_model.specs.Runs.Run.{run, is_open, is_finished, IsComplete};
+ghost use Rattle.argo_model.specs.Runs.Final.{final_of};
+ghost use Rattle.argo_model.specs.Runs.Closed.{closed_domains, heard_all};
+ghost use Rattle.argo_machine.specs.Machine.{OneStep};
+
+use crate::books::Books;
+use crate::replies::heard_of_all;
+use crate::vcpus::vcpus_of;
+use argo_base::NoMemory;
+use argo_model::{
+    ClosedDomains, DomainLines, DoneList, Final, Heard, Outcome, Runs, Scripts,
+};
+use flat_world::FlatWorld;
+use std::alloc::Global;
+use std::marker::Model;
+use vcpu_machine::Vcpu;
+
+/// The plain machine over a script: it runs it, step by step, under any schedule. Contracts see what it runs, the schedule
+/// so far, and how many steps are to come at most.
+#[derive(Drop)]
+pub struct Machine {
+    version: u32,
+    domains: DomainLines,
+    kept: Kept,
+    alloc: Global,
+}
+
+impl Model for Machine {
+    ghost use Rattle.argo_machine.specs.Machine.{Standing, standing_of, IsKept};
+
+    ghost Value = { Standing };
+
+    ghost view = { standing_of };
+
+    ghost invariant = { IsKept };
+}
+
+impl Machine {
+    /// The machine before the first step of a script.
+    pub fn new(alloc: Global, scripts: &Scripts) -> Result<Machine, NoMemory>
+        ensures script { IfOk result (λ m. m.script ≡ scripts.now) }
+        ensures schedule { IfOk result (λ m. m.schedule ≡ []) }
+        ensures left { IfOk result (λ m. m.left < 2 ^ 32) }
+    {
+        let vcpus = vcpus_of(alloc, scripts.parts.as_slice())?;
+        let domains = DomainLines::copy_of(alloc, scripts.domains.as_slice())?;
+        let world = FlatWorld::new(alloc, scripts)?;
+        Ok(Machine {
+            version: scripts.version,
+            domains,
+            kept: Kept {
+                vcpus,
+                world,
+                books: Books::new(alloc),
+            },
+            alloc,
+        })
+    }
+
+    /// Whether a section has no line left. It is true also of a number that is no section's.
+    pub fn finished(&self, v: u32) -> bool
+        ensures { IsTrue result ↔ (is_open (run self.now.script self.now.schedule) v ≡ false) }
+    {
+        match self.kept.vcpus.get(v as usize) {
+            Some(vcpu) => vcpu.finished(),
+            None => true,
+        }
+    }
+
+    /// One step of a section that is not finished, and its outcome. Where memory runs out, the machine is as before.
+    pub fn step(&mut self, v: u32) -> Result<Outcome, NoMemory>
+        requires { IsTrue (is_open (run self.old.script self.old.schedule) v) }
+        ensures ok { IfOk result (λ o. OneStep self.old v o self.new) }
+        ensures err { OnErr result (self.new ≡ self.old) }
+    {
+        self.kept.advance(v)
+    }
+
+    /// The domains as they stand, and for each section its replies so far with their steps. All is copied, the domains' memory
+    /// too.
+    pub fn closed(&self) -> Result<(ClosedDomains, Heard), NoMemory>
+        ensures domains { IfOk result (λ c. c.0 ≡ closed_domains (run self.now.script self.now.schedule).state) }
+        ensures heard { IfOk result (λ c. c.1 ≡ heard_all (run self.now.script self.now.schedule)) }
+    {
+        let kept = &self.kept;
+        let domains = kept.world.closed()?;
+        let sections = kept.vcpus.len();
+        let heard = heard_of_all(
+            self.alloc,
+            sections,
+            kept.books.done.as_slice(),
+            kept.books.reply_steps.as_slice(),
+        )?;
+        Ok((domains, heard))
+    }
+
+    /// What a report shows of the whole run. Where memory runs out, the machine is lost.
+    pub fn finish(self) -> Result<Final, NoMemory>
+        requires { IsTrue (list_all is_finished (run self.script self.schedule).sections) }
+        ensures shown { IfOk result (λ f. f ≡ final_of self.script self.schedule) }
+        ensures complete { IfOk result (λ f. IsComplete self.script self.schedule) }
+    {
+        let Machine { version, kept, .. } = self;
+        let Kept { world, books, .. } = kept;
+        let (domains, totals) = world.into_finals()?;
+        Ok(Final {
+            version,
+            runs: Runs::from_vec(books.runs),
+            done: DoneList::from_vec(books.done),
+            domains,
+            totals,
+        })
+    }
+}
+
+/// What a machine keeps of a run.
+#[derive(Drop)]
+pub(crate) struct Kept {
+    vcpus: Vec<Vcpu>,
+    world: FlatWorld,
+    books: Books,
+}
+
+impl Kept {
+    ghost use Rattle.argo_machine.specs.Kept.{IsOpenIn, AdvancesBy, StaysKept};
+
+    // One step of a section.
+    fn advance(&mut self, v: u32) -> Result<Outcome, NoMemory>
+        requires { IsOpenIn self.old v }
+        ensures ok { IfOk result (λ o. AdvancesBy self.old v o self.new) }
+        ensures err { OnErr result (StaysKept self.old self.new) }
+    {
+        self.books.reserve()?;
+        let vcpu = &mut self.vcpus[v as usize];
+        let line = vcpu.done_lines() + 1;
+        let (outcome, reply) = vcpu.turn(v, &mut self.world)?;
+        let step = self.world.steps(v);
+        self.books.note(v, step, line, reply);
+        Ok(outcome)
+    }
+}
