@@ -1,5 +1,6 @@
 # Two virtual CPUs of one domain send into a ring that has room for one body. Which of them gets it is up to the schedule, so try many
-# seeds: `argo_run serial 0`, `serial 1`, `serial 2`. Look at the replies of sections 1 and 2.
+# seeds. The reports beside this script are of `argo_run serial 0`, `serial 1`, `serial 2` and `serial 5`. Look at the replies of sections
+# 1 and 2; what is expected here is of `serial 0`.
 argo 1
 domain 1 pages 2
 domain 2 pages 2
