@@ -24,6 +24,7 @@ fn reserved_room_takes_a_message(rt: HostRuntime) -> Result<(), Fail> {
         list.reserve()?;
         list.push_reserved(message);
     }
+    assert_eq!(rt; list.len(), 3);
     list.drop_first(1);
     let left = list.into_messages();
     assert_eq!(rt; left.len(), 2);
