@@ -6,7 +6,8 @@ use std::marker::Model;
 
 /// The number of a domain, or `ANY`. Contracts see it as that number.
 ///
-/// Its default is 0, which the unused places of a list of fixed capacity hold. Domains have ids below 0x7FF0, as `DOMID_FIRST_RESERVED` of Xen says; whoever reads an id from a guest may find any 16 bits.
+/// Domains have ids below 0x7FF0, as `DOMID_FIRST_RESERVED` of Xen says; whoever reads an id from a guest may find any 16 bits.
+/// The default is 0: what the unused places of a list of fixed capacity hold.
 #[derive(Clone, Copy, Debug, Default, PartialEq, Eq, PartialOrd, Ord, Hash)]
 pub struct DomId(pub u16);
 

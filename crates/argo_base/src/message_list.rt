@@ -65,10 +65,12 @@ impl MessageList {
         self.items.push_reserved(x);
     }
 
-    /// Adds a message at the end. Where memory runs out, the message is dropped and the list stays.
+    /// Adds a message at the end. Where memory runs out, the message is dropped and the list stays; that is only where there
+    /// was no room.
     pub fn push(&mut self, x: Message) -> Result<(), NoMemory>
         ensures ok { OnOk result (self.new.messages ≡ self.old.messages ++ x ∷ []) }
         ensures err { OnErr result (self.new.messages ≡ self.old.messages) }
+        ensures full { OnErr result (IsFalse self.old.has_room) }
     {
         self.items.push(x)?;
         Ok(())

@@ -1,0 +1,3 @@
+pub mod NoticeLaws
+pub mod RiseLaws
+pub mod SearchLaws
