@@ -1,0 +1,5 @@
+use Rattle.argo_abi.proofs.StructureLaws.{ring_data_entry_back}
+use Rattle.argo_abi.proofs.ring_data_entry.get_ring_data_entry.Goals as goal
+
+pub returns-clause-back : goal.returns-clause-back
+returns-clause-back c = rw (c.read_addr.ensures, c.read_u16.ensures, c.read_u16-2.ensures, c.read_u32.ensures, c.read_u32-2.ensures) (ring_data_entry_back c.args.b.now c.fits-b c.told-b)
