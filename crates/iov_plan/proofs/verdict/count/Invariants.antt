@@ -1,4 +1,4 @@
-use Rattle.std.proofs.Common.{◌≡◌, ◌+◌, ◌≤◌, sum_by, take, drop}
+use Rattle.std.proofs.Common.{◌≡◌, ◌≤◌, sum_by, take, drop}
 use Rattle.argo_base.specs.Iovs.{Iov, judged, verdict_of, longest_body}
 use Rattle.iov_plan.proofs.verdict.count.Given as goal
 
