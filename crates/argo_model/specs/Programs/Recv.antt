@@ -28,9 +28,9 @@ slot_pieces ring len at n = pieces (ring + 64 + at) (min n (len - at)) ++ pieces
 abbrev pub message_of : List ℕ → List ℕ → Message
 message_of head body = record { src = u16_at head 8; port = u32_at head 4; kind = u32_at head 12; body = body }
 
--- the length in the header counts the header, and the message ends at the tx word or before it
-abbrev pub is_message_head : ℕ → ℕ → ℕ → List ℕ → Bool
-is_message_head len rx tx head = not (nat_lt (u32_at head 0) 16) && not (nat_lt ((len + tx - rx) % len) (up (u32_at head 0)))
+-- the length m in a header counts the header, and the message ends at the tx word or before it
+abbrev pub is_message_size : ℕ → ℕ → ℕ → ℕ → Bool
+is_message_size len rx tx m = not (nat_lt m 16) && not (nat_lt ((len + tx - rx) % len) (up m))
 
 module _ (end : End) where
   -- fetches n bytes of a ring's slots
@@ -48,7 +48,7 @@ module _ (end : End) where
   -- then the body is fetched
   abbrev pub recv_head : ℕ → ℕ → ℕ → ℕ → List ℕ → Rests
   recv_head ring len rx tx head os =
-      end_if (not (is_message_head len rx tx head)) (end Bad)
+      end_if (not (is_message_size len rx tx (u32_at head 0))) (end Bad)
       (λ os. take_slots ring len (place_after len rx 16) (u32_at head 0 - 16) (recv_body ring len rx head) os) os
 
   -- both words are places of the ring; where they are the same it is empty, and else a message begins at the rx word
