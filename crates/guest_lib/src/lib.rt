@@ -10,6 +10,8 @@ mod recv;
 mod ring;
 mod slots;
 mod stage;
+#[cfg(test)]
+mod tests;
 mod turns;
 
 pub use argo_model::Received;

@@ -4,6 +4,7 @@ ghost use Rattle.std.specs.Prelude.{◌≡◌, ◌<◌, ◌↔◌, List, [], ◌
 ghost use Rattle.argo_base.specs.Slots.{is_legal};
 ghost use Rattle.argo_model.specs.declared.action.Outcome.{Outcome as AnyOutcome};
 ghost use Rattle.argo_model.specs.Rules.Fit.{is_fit};
+ghost use Rattle.argo_model.specs.Rules.Outcomes.{can_have};
 ghost use Rattle.argo_model.specs.Programs.Asks.{Do};
 ghost use Rattle.argo_model.specs.Programs.Recv.{End, receive, say_received};
 ghost use Rattle.guest_lib.specs.Receiving.{ahead, followed, left_of, CanFollow};
@@ -59,6 +60,7 @@ impl Recv {
         requires { 0 < left_of self.old }
         ensures does { IfOk result (λ a. (end : End) → ahead end self.old [] ≡ Do a) }
         ensures fit { IfOk result (λ a. IsTrue (is_fit a)) }
+        ensures feeds { IfOk result (λ a. (o : AnyOutcome) → IsTrue (can_have a o) → CanFollow (ahead say_received self.new []) o) }
         ensures ok { OnOk result (self.new ≡ record self.old { ready = true }) }
         ensures err { OnErr result (self.new ≡ self.old) }
     {
@@ -76,11 +78,11 @@ impl Recv {
         ensures nearer { left_of self.new < left_of self.old }
         ensures over { IsSome result ↔ (left_of self.new ≡ 0) }
     {
-        self.hear(&outcome)
+        self.feed_by(&outcome)
     }
 
     /// As `feed`, of an outcome that the caller keeps.
-    pub fn hear(&mut self, outcome: &Outcome) -> Option<Received>
+    pub fn feed_by(&mut self, outcome: &Outcome) -> Option<Received>
         requires ready { IsTrue self.old.ready }
         requires can { CanFollow (ahead say_received self.old []) outcome.now }
         ensures goes_on { (end : End) (os : List AnyOutcome) → ahead end self.old (outcome.now ∷ os) ≡ followed end self.new result os }

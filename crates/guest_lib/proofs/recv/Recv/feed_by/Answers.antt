@@ -1,7 +1,7 @@
 use Rattle.std.proofs.Common.{◌∷◌, sym, ap, ◌∙◌}
 use Rattle.guest_lib.specs.Receiving.{ahead, ahead_at}
 use Rattle.guest_lib.specs.Stage.{step_of}
-use Rattle.guest_lib.proofs.recv.Recv.hear.Goals as goal
+use Rattle.guest_lib.proofs.recv.Recv.feed_by.Goals as goal
 
 pub returns-in-Ended-clause-goes_on : goal.returns-in-Ended-clause-goes_on
 returns-in-Ended-clause-goes_on c = λ end os.
