@@ -17,6 +17,7 @@ use Rattle.argo_model.specs.declared.received.Received.TheVariants.{Fault, Msg}
 use Rattle.argo_model.specs.Rules.Outcomes.{can_have}
 use Rattle.argo_model.specs.Programs.Asks.{Next, Do, Rests, unless_gone, if_bytes, if_done, fetch_all, put_all}
 use Rattle.argo_model.specs.Programs.Recv.{End, slot_pieces, put_rx}
+use Rattle.guest_lib.specs.Ends.{EndsFetch, EndsPut}
 use Rattle.guest_lib.specs.Receiving.{ended, CanFollow}
 
 -- a range inside a page is one piece
@@ -69,7 +70,7 @@ module _ (ps qs : List Piece) (p : Piece) (is : ps ≡ p ∷ qs) (got : List ℕ
 
   -- any other outcome ends it
   pub fetch_ended : (received : Received)
-      → ((end : End) (k : List ℕ → Rests) (os : List Outcome) → unless_gone o (if_bytes (end Fault) k) os ≡ ended end received)
+      → EndsFetch o received
       → fetch_all ps got (end Fault) k (o ∷ os) ≡ ended end received
   fetch_ended received ends =
       ap (λ xs. fetch_all xs got (end Fault) k (o ∷ os)) is ∙ ends end (λ bs os. fetch_all qs (got ++ bs) (end Fault) k os) os
@@ -109,7 +110,7 @@ can_fetch ps p got failed k o is can = let P : Next → Type 0 = λ next. CanFol
 
 -- the put of the rx word ends it
 pub put_ended : (page word : ℕ) (m : Message) (o : Outcome) (received : Received)
-    → ((end : End) (os : List Outcome) → unless_gone o (if_done (end Fault) (λ os. end (Msg m))) os ≡ ended end received)
+    → EndsPut m o received
     → (end : End) (os : List Outcome) → put_rx end (page * 4096) word m (o ∷ os) ≡ ended end received
 put_ended page word m o received ends end os =
     ap (λ ps. put_all ps (u32_bytes word) (end Fault) (λ os. end (Msg m)) (o ∷ os)) (rx_piece page) ∙ ends end os

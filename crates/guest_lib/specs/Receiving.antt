@@ -1,14 +1,15 @@
 -- How far the library is with a message, and what it still does from there on.
-use Rattle.std.specs.Prelude.{ℕ, ◌+◌, ◌*◌, Bool, List, length, Option, Some, None, IsTrue}
+use Rattle.std.specs.Prelude.{◌≡◌, ℕ, ◌+◌, ◌*◌, Bool, List, [], ◌∷◌, length, Option, Some, None, IsTrue}
 use Rattle.argo_base.specs.declared.message.Message.{Message}
 use Rattle.argo_base.specs.declared.piece.Piece.{Piece}
 use Rattle.argo_abi.specs.declared.message_head.MessageHead.{MessageHead}
+use Rattle.argo_model.specs.declared.action.Action.{Action}
 use Rattle.argo_model.specs.declared.action.Outcome.{Outcome}
 use Rattle.argo_model.specs.declared.received.Received.{Received}
 use Rattle.argo_model.specs.declared.received.Received.TheVariants.{Msg, Empty, Bad, Fault, Gone}
 use Rattle.argo_model.specs.declared.reply.Reply.TheVariants.{Gone as gone}
 use Rattle.argo_model.specs.Programs.Asks.{Next, Do, Say, Rests, fetch_all}
-use Rattle.argo_model.specs.Programs.Recv.{End, receive, recv_tx, recv_head, take_slots, put_rx}
+use Rattle.argo_model.specs.Programs.Recv.{End, receive, say_received, recv_tx, recv_head, take_slots, put_rx}
 use Rattle.argo_model.specs.Rules.Outcomes.{can_have}
 
 -- what is to be done next
@@ -73,7 +74,26 @@ abbrev pub followed : End → Receiving → Option Received → Rests
 followed end r None os = ahead end r os
 followed end r (Some received) os = ended end received
 
+-- the library is at the start of its program, for a ring of len slot bytes that begins on a page
+abbrev pub Starts : ℕ → ℕ → Receiving → Type 0
+Starts page len r = (end : End) (os : List Outcome) → ahead end r os ≡ receive end page len os
+
+-- this action is next
+abbrev pub IsNext : Receiving → Action → Type 0
+IsNext r a = (end : End) → ahead end r [] ≡ Do a
+
 -- the outcome is one that the next action can have
 abbrev pub CanFollow : Next → Outcome → Type 0
 CanFollow (Do a) o = IsTrue (can_have a o)
 CanFollow (Say reply) o = ⊥
+
+abbrev pub CanFeed : Receiving → Outcome → Type 0
+CanFeed r o = CanFollow (ahead say_received r []) o
+
+-- all outcomes that an action can have are such
+abbrev pub FeedsAll : Action → Receiving → Type 0
+FeedsAll a r = (o : Outcome) → IsTrue (can_have a o) → CanFeed r o
+
+-- with an outcome the program goes on: to what the library still does, or to its end
+abbrev pub GoesOn : Receiving → Outcome → Option Received → Receiving → Type 0
+GoesOn old o result new = (end : End) (os : List Outcome) → ahead end old (o ∷ os) ≡ followed end new result os

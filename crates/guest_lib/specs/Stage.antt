@@ -1,16 +1,20 @@
 -- The stages of a recv as the code has them.
-use Rattle.std.specs.Prelude.{◌≡◌, ℕ, ◌+◌, ◌-◌, ◌<◌, ◌≤◌, List, length, sum_by, IsTrue, Bool, false, vec_capacity}
+use Rattle.std.specs.Prelude.{◌≡◌, ℕ, ◌+◌, ◌-◌, ◌/◌, ◌%◌, ◌<◌, ◌≤◌, List, [], ◌∷◌, length, slice_get, Some, sum_by, IsTrue, Bool, false, vec_capacity}
 use Rattle.argo_base.specs.declared.piece.Piece.{Piece}
 use Rattle.argo_base.specs.Slots.{is_place}
+use Rattle.argo_model.specs.declared.action.Action.{Action}
+use Rattle.argo_model.specs.declared.action.Action.TheVariants.{Fetch}
 use Rattle.argo_model.specs.declared.action.Outcome.{Outcome}
-use Rattle.argo_model.specs.Programs.Asks.{Rests}
-use Rattle.argo_model.specs.Programs.Recv.{End}
+use Rattle.argo_model.specs.Rules.Outcomes.{can_have}
+use Rattle.argo_model.specs.Programs.Asks.{Rests, Do}
+use Rattle.argo_model.specs.Programs.Recv.{End, say_received}
+use Rattle.guest_lib.specs.declared.own_ring.OwnRing.{OwnRing}
 use Rattle.guest_lib.specs.declared.stage.BodyRead.{BodyRead}
 use Rattle.guest_lib.specs.declared.stage.Stage.{Stage}
 use Rattle.guest_lib.specs.declared.stage.Stage.TheVariants.{Rx, Tx, Head, Body, Word, Done}
 use Rattle.guest_lib.specs.declared.stage.Onward.{Onward}
 use Rattle.guest_lib.specs.declared.stage.Onward.TheVariants.{To, Ended}
-use Rattle.guest_lib.specs.Receiving.{Step, ReadRx, ReadTx, ReadHead, ReadBody, PutRx, Over, ended, step_left, ahead_at}
+use Rattle.guest_lib.specs.Receiving.{Step, ReadRx, ReadTx, ReadHead, ReadBody, PutRx, Over, ended, step_left, ahead_at, CanFollow}
 
 abbrev pub read_body : BodyRead → Step
 read_body b = ReadBody b.slots b.got.items b.head b.word
@@ -43,10 +47,34 @@ IsStage len ready (Body b) = IsBody ready b
 IsStage len ready (Word word message) = Unit {0}
 IsStage len ready Done = Unit {0}
 
+-- nothing of the stage is less ready than before
+abbrev pub StaysReady : ℕ → Stage → Stage → Type 0
+StaysReady len old new = (ready : Bool) → IsStage len ready old → IsStage len ready new
+
+-- two steps are of one effect
+abbrev pub GoAlike : Step → Step → Type 0
+GoAlike a b = (end : End) (page len : ℕ) (os : List Outcome) → ahead_at end page len a os ≡ ahead_at end page len b os
+
+-- this action is next
+abbrev pub IsAction : OwnRing → Step → Action → Type 0
+IsAction ring step a = (end : End) → ahead_at end ring.page ring.len step [] ≡ Do a
+
+-- the outcome is one that the action of the step can have
+abbrev pub CanHear : OwnRing → Step → Outcome → Type 0
+CanHear ring step o = CanFollow (ahead_at say_received ring.page ring.len step []) o
+
+-- the fetch of the header at rx
+abbrev pub head_fetch : OwnRing → ℕ → Action
+head_fetch ring rx = Fetch (ring.page + (64 + rx) / 4096) ((64 + rx) % 4096) 16
+
+-- the outcome is one that the fetch of the next piece can have
+abbrev pub CanHearPiece : BodyRead → Outcome → Type 0
+CanHearPiece b o = (p : Piece) → slice_get b.slots 0 ≡ Some p → IsTrue (can_have (Fetch p.page p.off p.n) o)
+
 -- what the library still does from there
-abbrev pub rest_onward : End → ℕ → ℕ → Onward → Rests
-rest_onward end page len (To stage) os = ahead_at end page len (step_of stage) os
-rest_onward end page len (Ended received) os = ended end received
+abbrev pub rest_onward : End → OwnRing → Onward → Rests
+rest_onward end ring (To stage) os = ahead_at end ring.page ring.len (step_of stage) os
+rest_onward end ring (Ended received) os = ended end received
 
 -- a stage that is to come has an action to come
 abbrev pub IsOnward : ℕ → Onward → Type 0
@@ -57,8 +85,8 @@ abbrev pub onward_left : Onward → ℕ
 onward_left (To stage) = step_left (step_of stage)
 onward_left (Ended received) = 0
 
--- a program goes on there, with at most so many actions
-pub record Leads (page len : ℕ) (k : End → Rests) (most : ℕ) (o : Onward) : Type 0 where
-  pub rest : (end : End) (os : List Outcome) → k end os ≡ rest_onward end page len o os
-  pub ready : IsOnward len o
-  pub few : onward_left o ≤ most
+-- the library goes on there after a step with this outcome
+pub record Follows (ring : OwnRing) (step : Step) (o : Outcome) (onward : Onward) : Type 0 where
+  pub rest : (end : End) (os : List Outcome) → ahead_at end ring.page ring.len step (o ∷ os) ≡ rest_onward end ring onward os
+  pub ready : IsOnward ring.len onward
+  pub nearer : onward_left onward < step_left step

@@ -1,13 +1,9 @@
 //! The body of a message, fetched piece by piece.
 
-ghost use Rattle.std.specs.Prelude.{◌≡◌, ◌+◌, ◌<◌, ◌≤◌, Bool, List, ℕ, [], ◌∷◌, length, true, false, IsTrue, IfOk, OnOk, slice_get, Some};
-ghost use Rattle.argo_model.specs.declared.action.Outcome.{Outcome as AnyOutcome};
-ghost use Rattle.argo_base.specs.declared.piece.Piece.{Piece as AnyPiece};
+ghost use Rattle.std.specs.Prelude.{◌≡◌, ◌+◌, ◌<◌, ◌≤◌, ℕ, Bool, length, true, false, IsTrue, IfOk, OnOk};
+ghost use Rattle.guest_lib.specs.declared.own_ring.OwnRing.{OwnRing as AnyRing};
 ghost use Rattle.argo_model.specs.Rules.Fit.{is_fit};
-ghost use Rattle.argo_model.specs.Rules.Outcomes.{can_have};
-ghost use Rattle.argo_model.specs.Programs.Asks.{Do};
-ghost use Rattle.argo_model.specs.Programs.Recv.{End};
-ghost use Rattle.guest_lib.specs.Receiving.{ahead_at, message_with, step_left};
+ghost use Rattle.guest_lib.specs.Receiving.{message_with, step_left};
 
 use crate::fetched::bytes_of;
 use crate::stage::{BodyRead, Onward, Stage};
@@ -15,13 +11,13 @@ use argo_base::{Bytes, DomId, Message, NoMemory};
 use argo_model::{Action, Outcome};
 
 impl BodyRead {
-    ghost use Rattle.guest_lib.specs.Stage.{IsBody, HasBodySize, IsStage, Leads, read_body, step_of};
+    ghost use Rattle.guest_lib.specs.Stage.{IsBody, HasBodySize, IsStage, Follows, GoAlike, IsAction, CanHearPiece, read_body, step_of};
 
     /// The fetch of the next piece, with the memory for all of the body.
     pub(crate) fn next(&mut self) -> Result<Action, NoMemory>
         requires some { 0 < length self.old.slots }
         requires size { HasBodySize self.old }
-        ensures does { IfOk result (λ a. (end : End) (page len : ℕ) → ahead_at end page len (read_body self.old) [] ≡ Do a) }
+        ensures does { IfOk result (λ a. (ring : AnyRing) → IsAction ring (read_body self.old) a) }
         ensures fit { IfOk result (λ a. IsTrue (is_fit a)) }
         ensures alike { read_body self.new ≡ read_body self.old }
         ensures room { OnOk result (IsBody true self.new) }
@@ -42,8 +38,8 @@ impl BodyRead {
     /// Where the library goes with the outcome of that fetch.
     pub(crate) fn fed(self, outcome: &Outcome) -> Onward
         requires ready { IsBody true self }
-        requires can { (p : AnyPiece) → slice_get self.slots 0 ≡ Some p → IsTrue (can_have (Action.Fetch p.page p.off p.n) outcome.now) }
-        ensures { (page len : ℕ) → Leads page len (λ end os. ahead_at end page len (read_body self) (outcome.now ∷ os)) (length self.slots) result }
+        requires can { CanHearPiece self outcome.now }
+        ensures { (ring : AnyRing) → Follows ring (read_body self) outcome.now result }
     {
         let bytes = match bytes_of(outcome) {
             Ok(bytes) => bytes,
@@ -58,7 +54,7 @@ impl BodyRead {
     /// The stage after the bytes so far: the next piece, or the put of the rx word.
     pub(crate) fn stage(self) -> Stage
         requires { HasBodySize self }
-        ensures alike { (end : End) (page len : ℕ) (os : List AnyOutcome) → ahead_at end page len (step_of result) os ≡ ahead_at end page len (read_body self) os }
+        ensures alike { GoAlike (step_of result) (read_body self) }
         ensures ready { (len : ℕ) → IsStage len false result }
         ensures some { 0 < step_left (step_of result) }
         ensures few { step_left (step_of result) ≤ length self.slots + 1 }

@@ -6,6 +6,7 @@
 
 mod body;
 mod fetched;
+mod own_ring;
 mod recv;
 mod ring;
 mod slots;

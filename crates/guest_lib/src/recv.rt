@@ -1,15 +1,11 @@
 //! A recv, action by action.
 
-ghost use Rattle.std.specs.Prelude.{◌≡◌, ◌<◌, ◌↔◌, List, [], ◌∷◌, true, IsTrue, IsSome, IfOk, OnOk, OnErr};
+ghost use Rattle.std.specs.Prelude.{◌≡◌, ◌<◌, ◌↔◌, true, IsTrue, IsSome, IfOk, OnOk, OnErr};
 ghost use Rattle.argo_base.specs.Slots.{is_legal};
-ghost use Rattle.argo_model.specs.declared.action.Outcome.{Outcome as AnyOutcome};
 ghost use Rattle.argo_model.specs.Rules.Fit.{is_fit};
-ghost use Rattle.argo_model.specs.Rules.Outcomes.{can_have};
-ghost use Rattle.argo_model.specs.Programs.Asks.{Do};
-ghost use Rattle.argo_model.specs.Programs.Recv.{End, receive, say_received};
-ghost use Rattle.guest_lib.specs.Receiving.{ahead, followed, left_of, CanFollow};
+ghost use Rattle.guest_lib.specs.Receiving.{Starts, IsNext, FeedsAll, CanFeed, GoesOn, left_of};
 
-use crate::ring::OwnRing;
+use crate::own_ring::OwnRing;
 use crate::stage::{Onward, Stage};
 use argo_base::NoMemory;
 use argo_model::{Action, Outcome, Received};
@@ -44,7 +40,7 @@ impl Recv {
     /// A recv from the ring of `len` slot bytes that stands on a page of the guest and those that follow it.
     pub fn start(alloc: Global, page: u32, len: u32) -> Recv
         requires { IsTrue (is_legal len) }
-        ensures ahead { (end : End) (os : List AnyOutcome) → ahead end result os ≡ receive end page len os }
+        ensures starts { Starts page len result }
         ensures left { left_of result ≡ 4104 }
     {
         Recv {
@@ -58,9 +54,9 @@ impl Recv {
     /// The next action, with all the memory that its outcome will want. After want of memory the recv is as before.
     pub fn next(&mut self) -> Result<Action, NoMemory>
         requires { 0 < left_of self.old }
-        ensures does { IfOk result (λ a. (end : End) → ahead end self.old [] ≡ Do a) }
+        ensures does { IfOk result (λ a. IsNext self.old a) }
         ensures fit { IfOk result (λ a. IsTrue (is_fit a)) }
-        ensures feeds { IfOk result (λ a. (o : AnyOutcome) → IsTrue (can_have a o) → CanFollow (ahead say_received self.new []) o) }
+        ensures feeds { IfOk result (λ a. FeedsAll a self.new) }
         ensures ok { OnOk result (self.new ≡ record self.old { ready = true }) }
         ensures err { OnErr result (self.new ≡ self.old) }
     {
@@ -73,8 +69,8 @@ impl Recv {
     /// no memory.
     pub fn feed(&mut self, outcome: Outcome) -> Option<Received>
         requires ready { IsTrue self.old.ready }
-        requires can { CanFollow (ahead say_received self.old []) outcome }
-        ensures goes_on { (end : End) (os : List AnyOutcome) → ahead end self.old (outcome ∷ os) ≡ followed end self.new result os }
+        requires can { CanFeed self.old outcome }
+        ensures goes_on { GoesOn self.old outcome result self.new }
         ensures nearer { left_of self.new < left_of self.old }
         ensures over { IsSome result ↔ (left_of self.new ≡ 0) }
     {
@@ -84,8 +80,8 @@ impl Recv {
     /// As `feed`, of an outcome that the caller keeps.
     pub fn feed_by(&mut self, outcome: &Outcome) -> Option<Received>
         requires ready { IsTrue self.old.ready }
-        requires can { CanFollow (ahead say_received self.old []) outcome.now }
-        ensures goes_on { (end : End) (os : List AnyOutcome) → ahead end self.old (outcome.now ∷ os) ≡ followed end self.new result os }
+        requires can { CanFeed self.old outcome.now }
+        ensures goes_on { GoesOn self.old outcome.now result self.new }
         ensures nearer { left_of self.new < left_of self.old }
         ensures over { IsSome result ↔ (left_of self.new ≡ 0) }
     {

@@ -1,28 +1,22 @@
-//! The ring that the library takes from: its words, and the header of the message in it.
+//! The words of a ring, and the header of the message in it.
 
 ghost use Rattle.std.specs.Prelude.{◌≡◌, ◌+◌, ◌*◌, ◌/◌, ◌%◌, ◌<◌, ◌≤◌, ◌^◌, ◌∷◌, length, IsTrue};
 ghost use Rattle.argo_base.specs.Layout.{u32_at};
 ghost use Rattle.argo_base.specs.Slots.{is_legal, is_place as place_fits};
-ghost use Rattle.argo_model.specs.Programs.Recv.{receive, recv_tx, recv_head, is_message_size};
+ghost use Rattle.argo_model.specs.Programs.Recv.{is_message_size};
 ghost use Rattle.argo_model.specs.Rules.Fit.{is_fit};
 ghost use Rattle.argo_model.specs.Rules.Outcomes.{can_have};
-ghost use Rattle.guest_lib.specs.Receiving.{head_ahead};
-ghost use Rattle.guest_lib.specs.Stage.{Leads};
+ghost use Rattle.guest_lib.specs.Receiving.{ReadRx, ReadTx, ReadHead};
+ghost use Rattle.guest_lib.specs.Stage.{Follows, head_fetch};
 
 use crate::fetched::bytes_of;
+use crate::own_ring::OwnRing;
 use crate::slots::Slots;
 use crate::stage::{BodyRead, Onward, Stage};
 use argo_abi::{MessageHead, get_message_head};
 use argo_base::slots::{is_place, place_after, up};
 use argo_model::{Action, Outcome, Received};
 use std::alloc::Global;
-
-/// The page on which the ring begins, and its slot bytes.
-#[derive(Clone, Copy, Debug)]
-pub(crate) struct OwnRing {
-    pub(crate) page: u32,
-    pub(crate) len: u32,
-}
 
 impl OwnRing {
     /// The fetch of `n` bytes of one page, `off` bytes from where the ring begins.
@@ -41,7 +35,7 @@ impl OwnRing {
     /// Where the library goes with the outcome of the rx word's fetch.
     pub(crate) fn rx_fed(self, outcome: &Outcome) -> Onward
         requires { IsTrue (can_have (Action.Fetch self.page 0 4) outcome.now) }
-        ensures { Leads self.page self.len (λ end os. receive end self.page self.len (outcome.now ∷ os)) 4103 result }
+        ensures { Follows self ReadRx outcome.now result }
     {
         match bytes_of(outcome) {
             Ok(bytes) => Onward::To(Stage::Tx { rx: word_in(bytes) }),
@@ -52,7 +46,7 @@ impl OwnRing {
     /// Where it goes with that of the tx word's, after the rx word.
     pub(crate) fn tx_fed(self, rx: u32, outcome: &Outcome) -> Onward
         requires { IsTrue (can_have (Action.Fetch self.page 4 4) outcome.now) }
-        ensures { Leads self.page self.len (λ end os. recv_tx end (self.page * 4096) self.len rx (outcome.now ∷ os)) 4102 result }
+        ensures { Follows self (ReadTx rx) outcome.now result }
     {
         let tx = match bytes_of(outcome) {
             Ok(bytes) => word_in(bytes),
@@ -72,8 +66,8 @@ impl OwnRing {
         requires ring { IsTrue (is_legal self.len) }
         requires rx { IsTrue (place_fits self.len rx) }
         requires tx { tx < self.len }
-        requires can { IsTrue (can_have (Action.Fetch (self.page + (64 + rx) / 4096) ((64 + rx) % 4096) 16) outcome.now) }
-        ensures { Leads self.page self.len (λ end os. head_ahead end self.page self.len rx tx (outcome.now ∷ os)) 4101 result }
+        requires can { IsTrue (can_have (head_fetch self rx) outcome.now) }
+        ensures { Follows self (ReadHead rx tx) outcome.now result }
     {
         let bytes = match bytes_of(outcome) {
             Ok(bytes) => bytes,
