@@ -4,10 +4,7 @@ ghost use Rattle.std.specs.Prelude.{◌≡◌, ◌≤◌, sum_by, IfOk};
 ghost use Rattle.argo_base.specs.Iovs.{verdict_of, longest_body};
 
 use argo_abi::Iov;
-use argo_base::Errno;
-
-/// The longest body, in bytes.
-const LONGEST_BODY: u32 = 0xFFFFE0;
+use argo_base::{Errno, LONGEST_BODY};
 
 /// The size of the body that the buffers make up, in bytes, or why they are refused. A sendv has at most 8 buffers; any number
 /// is judged. It takes no memory.
