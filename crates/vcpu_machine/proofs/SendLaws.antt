@@ -73,7 +73,7 @@ judged_to kind addr vs (Err e) os = refl
 pub buffer_leads : (g : Gather) (c : Cursor) (place : ℕ) (v : Iov) (got : Vec ℕ Global) → IsGather g → IsFirstBuffer (take g.count g.iovs) g.next place v
     → pieces_left c ≡ pieces v.hnd v.len → c.left ≡ v.len → IsSound c → length got.items + g.later ≡ g.size
     → Leads (gather (gathered_pieces (iovs_left g)) got.items g.size (deliver_to g.address)) (length (gathered_pieces (iovs_left g)) + 1)
-      (To (Reading c got (Send (Body (record { iovs = g.iovs; count = g.count; next = place + 1; later = g.later - v.len; size = g.size; address = g.address })))))
+    (To (Reading c got (Send (Body (record { iovs = g.iovs; count = g.count; next = place + 1; later = g.later - v.len; size = g.size; address = g.address })))))
 buffer_leads g c place v got ready first same left sound size =
     let later : Gather = record { iovs = g.iovs; count = g.count; next = place + 1; later = g.later - v.len; size = g.size; address = g.address } in
     let ps = pieces_left c in

@@ -303,9 +303,15 @@ turn_is : (s : State) (p : Progress) (line : Line) (rest : List Line) (a : Actio
 turn_is s p line rest a o after (Do b) reply done new at lines turns is stands =
     (turn_to p rest a (record { outcome = o; state = after }) (Do b), turns, ap (λ n. n + 1) at, refl, sym is, refl, subst (λ r. StandsAt new (progress_after p o r)) is stands)
 turn_is s p line rest a o after (Say said) reply done new at lines turns is stands =
-    let st : StandsAt new (progress_after p o (Some said)) = subst (λ r. StandsAt new (progress_after p o r)) is stands in
-    (turn_to p rest a (record { outcome = o; state = after }) (Say said), turns, ap (λ n. n + 1) at, refl, sym is, refl,
-    record { actor = st.actor; done = st.done; left = sym (ap (λ ls. drop 1 ls) lines) ∙ st.left; outcomes = st.outcomes })
+    let st : StandsAt new (progress_after p o (Some said)) = subst (λ r. StandsAt new (progress_after p o r)) is stands in (
+      turn_to p rest a (record { outcome = o; state = after }) (Say said),
+      turns,
+      ap (λ n. n + 1) at,
+      refl,
+      sym is,
+      refl,
+      record { actor = st.actor; done = st.done; left = sym (ap (λ ls. drop 1 ls) lines) ∙ st.left; outcomes = st.outcomes },
+    )
 
 done_by : (reply : Option Reply) (v mid new : VcpuAt) → mid.done ≡ v.done → IfSome reply (λ r. new.done ≡ mid.done + 1) → IfSome reply (λ r. new.done ≡ v.done + 1)
 done_by None v mid new same h = tt

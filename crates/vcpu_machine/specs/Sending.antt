@@ -1,8 +1,10 @@
 -- What follows the fetches of sendv.
-use Rattle.std.specs.Prelude.{◌≡◌, ℕ, ◌+◌, ◌-◌, ◌*◌, ◌<◌, ◌≤◌, List, [], ◌++◌, length, take, drop, sum_by, Option, Some, None, Result, Ok, Err}
+use Rattle.std.specs.Prelude.{◌≡◌, ℕ, ◌+◌, ◌-◌, ◌*◌, ◌<◌, ◌≤◌, Bool, ◌&&◌, ◌||◌, ◌==◌, List, [], ◌++◌, length, take, drop, sum_by, Option, Some, None, Result, Ok, Err}
 use Rattle.argo_base.specs.declared.errno.Errno.{Errno}
 use Rattle.argo_base.specs.declared.errno.Errno.TheVariants.{Fault as efault}
 use Rattle.argo_base.specs.Pieces.{pieces}
+use Rattle.argo_base.specs.Match.{is_wildcard}
+use Rattle.argo_abi.specs.declared.send_addr.SendAddr.{SendAddr}
 use Rattle.argo_base.specs.Iovs.{Iov, iovs_at, verdict_of, gathered_pieces}
 use Rattle.argo_base.specs.Limits.{longest_body}
 use Rattle.argo_model.specs.declared.action.Action.{Action}
@@ -15,6 +17,14 @@ use Rattle.vcpu_machine.specs.declared.reads.SendRead.{SendRead}
 use Rattle.vcpu_machine.specs.declared.reads.SendRead.TheVariants.{Head, Iovs, Body}
 use Rattle.argo_model.specs.Programs.Asks.{Rests, ask, refusal}
 use Rattle.argo_model.specs.Programs.Send.{say_accepted, gather, send_head}
+
+-- both pads are 0
+abbrev pub clear_pads : SendAddr → Bool
+clear_pads addr = (addr.src.pad == 0) && (addr.dst.pad == 0)
+
+-- the source names the caller, or the wildcard
+abbrev pub own_source : ℕ → SendAddr → Bool
+own_source caller addr = (addr.src.domain_id == caller) || is_wildcard addr.src.domain_id
 
 -- the act that delivers a load to an address
 abbrev pub delivered_to : Address → Load → Action

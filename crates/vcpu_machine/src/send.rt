@@ -3,17 +3,17 @@
 ghost use Rattle.std.specs.Prelude.{◌≡◌, ◌+◌, ◌*◌, ◌≤◌, length, take, IsTrue};
 ghost use Rattle.argo_base.specs.Iovs.{iov_at, iovs_at, verdict_of as judge, gathered_pieces};
 ghost use Rattle.argo_model.specs.Rules.Fit.{is_fit_load};
-ghost use Rattle.argo_model.specs.Programs.Send.{send_head, gather as gathers, is_send_addr as addr_fits, is_own_source as source_fits};
-ghost use Rattle.vcpu_machine.specs.Sending.{deliver_to, send_judged_to, IsNextBuffer};
+ghost use Rattle.argo_model.specs.Programs.Send.{send_head, gather as gathers};
+ghost use Rattle.vcpu_machine.specs.Sending.{clear_pads, own_source, deliver_to, send_judged_to, IsNextBuffer};
 ghost use Rattle.vcpu_machine.specs.Followed.{Leads};
 
 use crate::blank::Blank;
 use crate::cursor::Cursor;
-use crate::layout::{read_u16, read_u32};
+use crate::layout::{iov, send_addr};
 use crate::phase::{Followed, Phase, Question, Reader};
 use crate::reading::{reading, refusal};
 use crate::reads::{Address, Gather, MOST_IOVS, SendRead};
-use argo_abi::{Iov, get_iov};
+use argo_abi::{Iov, SendAddr};
 use argo_base::{Bytes, DomId, Errno};
 use argo_model::{Action, Load};
 
@@ -121,29 +121,22 @@ fn deliver(address: Address, load: Load) -> Followed
 }
 
 // After the addresses.
-fn head(
-    blank: Blank,
-    got: Vec<u8>,
-    caller: DomId,
-    iovs: u64,
-    count: u32,
-    kind: u32,
-) -> Followed
+fn head(blank: Blank, got: Vec<u8>, caller: DomId, iovs: u64, count: u32, kind: u32) -> Followed
     requires size { length got.items ≡ 16 }
     requires few { count ≤ 8 }
     ensures { Leads (send_head caller iovs count kind got.items) 4115 result }
 {
-    let addr = got.as_slice();
-    if !is_send_addr(addr) {
+    let addr = send_addr(got.as_slice());
+    if !has_no_pads(&addr) {
         return Followed::Over(refusal(Errno::Inval));
     }
-    if !is_own_source(caller, addr) {
+    if !has_own_source(caller, &addr) {
         return Followed::Over(refusal(Errno::Perm));
     }
     let address = Address {
-        port: read_u32(addr, 0),
-        to: DomId(read_u16(addr, 12)),
-        to_port: read_u32(addr, 8),
+        port: addr.src.aport,
+        to: DomId(addr.dst.domain_id),
+        to_port: addr.dst.aport,
         kind,
     };
     if count == 0 {
@@ -157,19 +150,17 @@ fn head(
 }
 
 // Whether both pads are 0.
-fn is_send_addr(addr: &[u8]) -> bool
-    requires { length addr.now ≡ 16 }
-    ensures { result ≡ addr_fits addr.now }
+fn has_no_pads(addr: &SendAddr) -> bool
+    ensures { result ≡ clear_pads addr.now }
 {
-    read_u16(addr, 6) == 0 && read_u16(addr, 14) == 0
+    addr.src.pad == 0 && addr.dst.pad == 0
 }
 
 // Whether the source names the caller, or the wildcard.
-fn is_own_source(caller: DomId, addr: &[u8]) -> bool
-    requires { length addr.now ≡ 16 }
-    ensures { result ≡ source_fits caller addr.now }
+fn has_own_source(caller: DomId, addr: &SendAddr) -> bool
+    ensures { result ≡ own_source caller addr.now }
 {
-    let named = DomId(read_u16(addr, 4));
+    let named = DomId(addr.src.domain_id);
     named == caller || named == DomId::ANY
 }
 
@@ -222,9 +213,7 @@ fn read_iov(list: &[u8], place: usize) -> Iov
 {
     let (_, rest) = list.split_at(16 * place);
     let (here, _) = rest.split_at(16);
-    let mut bytes = [0; 16];
-    bytes.copy_from_slice(here);
-    get_iov(&bytes)
+    iov(here)
 }
 
 // The first buffer from a place on that has bytes, with its place.

@@ -11,9 +11,10 @@ loop-i-preserved c =
     let i = c.loop-i.i in
     let few = c.requires.few in
     let long = c.loop-i.invariant.0 in
-    let below = c.loop-i-test.true in
-    (length-set iovs i c.read_iov.result ∙ long,
-    take_more_set iovs i c.read_iov.result (omega (arith, few, long, below))
-    ∙ ap (λ xs. xs ++ c.read_iov.result ∷ []) c.loop-i.invariant.1
-    ∙ ap (λ (x : Iov). iovs_at list i ++ x ∷ []) c.read_iov.ensures
-    ∙ sym (map-range_with_len_more (iov_at list) 0 i i (omega arith)))
+    let below = c.loop-i-test.true in (
+      length-set iovs i c.read_iov.result ∙ long,
+      take_more_set iovs i c.read_iov.result (omega (arith, few, long, below))
+          ∙ ap (λ xs. xs ++ c.read_iov.result ∷ []) c.loop-i.invariant.1
+          ∙ ap (λ (x : Iov). iovs_at list i ++ x ∷ []) c.read_iov.ensures
+          ∙ sym (map-range_with_len_more (iov_at list) 0 i i (omega arith)),
+    )
