@@ -1,6 +1,7 @@
 pub mod FitLaws
 pub mod LeadLaws
 pub mod LineLaws
+pub mod ListLaws
 pub mod MovedLaws
 pub mod NotifyLaws
 pub mod RangeLaws

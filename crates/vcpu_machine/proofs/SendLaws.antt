@@ -1,15 +1,13 @@
 -- Laws of sendv.
-use Rattle.std.proofs.Common.{◌≡◌, ◌≢◌, ℕ, suc, Vec, Global, ◌+◌, ◌-◌, ◌*◌, ◌<◌, ◌≤◌, Bool, true, false, cond, nat_lt, List, [], ◌∷◌, ◌++◌, IsTrue, length, map, Result, Ok, Err, refl, sym, ap, ◌∙◌, subst, arith, length-append, zero-add, inl, inr}
-use Rattle.std.proofs.lemmas.Bool.{cases_lt}
+use Rattle.std.proofs.Common.{◌≡◌, ◌≢◌, ℕ, Vec, Global, ◌+◌, ◌-◌, ◌*◌, ◌<◌, ◌≤◌, Bool, true, false, cond, nat_lt, List, [], ◌∷◌, ◌++◌, IsTrue, length, take, drop, Option, Some, None, slice_get, Result, Ok, Err, refl, sym, ap, ◌∙◌, subst, arith, length-append, length-take, length-drop, zero-add, inl, inr}
 use Rattle.std.proofs.lemmas.Bool.Decides.{nat_tests}
 use Rattle.std.proofs.lemmas.List.Sums.{sum_by-cons}
-use Rattle.std.proofs.lemmas.List.FromFn.{length-map-range_with_len}
-use Rattle.std.specs.List.{range_with_len}
+use Rattle.std.proofs.lemmas.List.{drop-drop}
 use Rattle.argo_base.specs.declared.errno.Errno.{Errno}
 use Rattle.argo_base.specs.declared.errno.Errno.TheVariants.{Inval, MsgSize}
 use Rattle.argo_base.specs.Pieces.{pieces}
 use Rattle.argo_base.specs.Layout.{u16_at, u32_at}
-use Rattle.argo_base.specs.Iovs.{Iov, iov_at, iovs_at, is_bad_iov, judged, verdict_of, gathered_pieces}
+use Rattle.argo_base.specs.Iovs.{Iov, iov_at, is_bad_iov, judged, verdict_of, gathered_pieces}
 use Rattle.argo_base.specs.Limits.{longest_body}
 use Rattle.vcpu_machine.specs.declared.cursor.Cursor.{Cursor}
 use Rattle.argo_model.specs.declared.action.Load.TheVariants.{Body as BodyLoad, Faulted}
@@ -25,103 +23,12 @@ use Rattle.vcpu_machine.specs.Cursor.{pieces_left, IsSound}
 use Rattle.argo_model.specs.Rules.Fit.{is_verdict}
 use Rattle.vcpu_machine.specs.Ranges.{collect}
 use Rattle.vcpu_machine.specs.Reader.{after_read}
-use Rattle.vcpu_machine.specs.Sending.{deliver_to, send_judged_to, iovs_from, iovs_left, bytes_of, IsFirstBuffer, SkipsTo, PassesTo, IsGather}
+use Rattle.vcpu_machine.specs.Sending.{deliver_to, send_judged_to, iovs_left, bytes_of, IsFirstBuffer, IsNextBuffer, SkipsTo, IsGather}
 use Rattle.vcpu_machine.specs.Followed.{Leads}
+use Rattle.vcpu_machine.proofs.ListLaws.{drop-slice_get, none_left}
 use Rattle.vcpu_machine.proofs.RangeLaws.{gather-collects, collect-append, collect-same, pieces-within}
 
--- the first of some iovs
-pub iovs_from-first : (list : List ℕ) (place count : ℕ) → place < count → iovs_from list place count ≡ iov_at list place ∷ iovs_from list (place + 1) count
-iovs_from-first list place count below =
-    let more : count - place ≡ suc (count - (place + 1)) = omega arith in
-    ap (λ n. map (iov_at list) (range_with_len place n)) more
-
--- past the last there are none
-pub iovs_from-none : (list : List ℕ) (place count : ℕ) → count ≤ place → iovs_from list place count ≡ []
-iovs_from-none list place count past = let none : count - place ≡ 0 = omega arith in ap (λ n. map (iov_at list) (range_with_len place n)) none
-
--- from the first on they are all
-pub iovs_from-all : (list : List ℕ) (count : ℕ) → iovs_from list 0 count ≡ iovs_at list count
-iovs_from-all list count = let all : count - 0 ≡ count = omega arith in ap (λ n. map (iov_at list) (range_with_len 0 n)) all
-
--- the verdict on some iovs, by the first of them
-module _ (list : List ℕ) (count place size : ℕ) (below : place < count) (before : PassesTo list count place size) where
-  first_judged : verdict_of (iovs_at list count) ≡ judged size (iov_at list place ∷ iovs_from list (place + 1) count)
-  first_judged = before.verdict_is ∙ ap (λ vs. judged size vs) (iovs_from-first list place count below)
-
-  pub bad_iov : is_bad_iov (iov_at list place) ≡ true → Err Inval ≡ verdict_of (iovs_at list count)
-  bad_iov bad = sym (first_judged ∙ ap (λ b. cond b (Err Inval) (cond (nat_lt longest_body (size + (iov_at list place).len)) (Err MsgSize) (judged (size + (iov_at list place).len) (iovs_from list (place + 1) count)))) bad)
-
-  long_body : is_bad_iov (iov_at list place) ≡ false → (b : Bool) → nat_lt longest_body (size + (iov_at list place).len) ≡ b
-      → verdict_of (iovs_at list count) ≡ cond b (Err MsgSize) (judged (size + (iov_at list place).len) (iovs_from list (place + 1) count))
-  long_body good b long =
-      first_judged
-      ∙ ap (λ b. cond b (Err Inval) (cond (nat_lt longest_body (size + (iov_at list place).len)) (Err MsgSize) (judged (size + (iov_at list place).len) (iovs_from list (place + 1) count)))) good
-      ∙ ap (λ b. cond b (Err MsgSize) (judged (size + (iov_at list place).len) (iovs_from list (place + 1) count))) long
-
-  pub too_long : is_bad_iov (iov_at list place) ≡ false → longest_body < size + (iov_at list place).len → Err MsgSize ≡ verdict_of (iovs_at list count)
-  too_long good long = let e : nat_lt longest_body (size + (iov_at list place).len) ≡ true = grind (arith, nat_tests) in sym (long_body good true e)
-
-  pub passed : is_bad_iov (iov_at list place) ≡ false → size + (iov_at list place).len ≤ longest_body → PassesTo list count (place + 1) (size + (iov_at list place).len)
-  passed good short =
-      let e : nat_lt longest_body (size + (iov_at list place).len) ≡ false = grind (arith, nat_tests) in
-      record { verdict_is = long_body good false e; size_within = short }
-
--- all iovs are passed
-pub all_passed : (list : List ℕ) (count place size : ℕ) → count ≤ place → PassesTo list count place size → Ok size ≡ verdict_of (iovs_at list count)
-all_passed list count place size past before = sym (before.verdict_is ∙ ap (λ vs. judged size vs) (iovs_from-none list place count past))
-
--- a buffer of no bytes is skipped
-pub skipped : (list : List ℕ) (count from place : ℕ) → place < count → (iov_at list place).len ≡ 0 → SkipsTo list count from place → SkipsTo list count from (place + 1)
-skipped list count from place below none before =
-    let v = iov_at list place in
-    let rest = iovs_from list (place + 1) count in
-    record {
-      pieces_are =
-          before.pieces_are ∙ ap gathered_pieces (iovs_from-first list place count below)
-          ∙ ap (λ n. pieces v.hnd n ++ gathered_pieces rest) none;
-      bytes_are =
-          before.bytes_are ∙ ap bytes_of (iovs_from-first list place count below)
-          ∙ sum_by-cons (λ (w : Iov). w.len) v rest ∙ ap (λ n. n + bytes_of rest) none ∙ zero-add (bytes_of rest);
-    }
-
--- a buffer that has bytes is the first after those skipped
-pub first_buffer : (list : List ℕ) (count from place : ℕ) → place < count → (iov_at list place).len ≢ 0 → SkipsTo list count from place → IsFirstBuffer list count from place
-first_buffer list count from place below some before =
-    record {
-      within = below;
-      some = omega arith;
-      pieces_are = before.pieces_are ∙ ap gathered_pieces (iovs_from-first list place count below);
-      bytes_are =
-          before.bytes_are ∙ ap bytes_of (iovs_from-first list place count below)
-          ∙ sum_by-cons (λ (w : Iov). w.len) (iov_at list place) (iovs_from list (place + 1) count);
-    }
-
--- the verdict is the size of the body, no longer than the longest, or one of two refusals
-size_judged : (n : ℕ) (vs : List Iov) (size : ℕ) → judged n vs ≡ Ok size → size ≡ n + bytes_of vs
-size_judged n [] size e = let same : n ≡ size = cc in omega arith
-size_judged n (v ∷ vs) size e =
-    let more = sum_by-cons (λ (w : Iov). w.len) v vs in
-    elim (is_bad_iov v) as (λ b. cond b (Err Inval) (cond (nat_lt longest_body (n + v.len)) (Err MsgSize) (judged (n + v.len) vs)) ≡ Ok size → size ≡ n + bytes_of (v ∷ vs)) [
-      | true ↦ (λ bad. absurd (let clash : ⊥ = cc in clash))
-      | false ↦ (λ good. elim (nat_lt longest_body (n + v.len)) as (λ b. cond b (Err MsgSize) (judged (n + v.len) vs) ≡ Ok size → size ≡ n + bytes_of (v ∷ vs)) [
-        | true ↦ (λ long. absurd (let clash : ⊥ = cc in clash))
-        | false ↦ (λ short. let rest = size_judged (n + v.len) vs size short in omega (arith, rest, more))
-      ] good)
-    ] e
-
-judged_within : (n : ℕ) (vs : List Iov) (size : ℕ) → n ≤ longest_body → judged n vs ≡ Ok size → size ≤ longest_body
-judged_within n [] size within e = let same : n ≡ size = cc in omega arith
-judged_within n (v ∷ vs) size within e =
-    elim (is_bad_iov v) as (λ b. cond b (Err Inval) (cond (nat_lt longest_body (n + v.len)) (Err MsgSize) (judged (n + v.len) vs)) ≡ Ok size → size ≤ longest_body) [
-      | true ↦ (λ bad. absurd (let clash : ⊥ = cc in clash))
-      | false ↦ (λ good. elim (cases_lt longest_body (n + v.len)) [
-        | inl long ↦ absurd (let e : nat_lt longest_body (n + v.len) ≡ true = grind (arith, nat_tests) in
-            let said : Err MsgSize ≡ Ok size = sym (ap (λ b. cond b (Err MsgSize) (judged (n + v.len) vs)) e) ∙ good in let clash : ⊥ = cc in clash)
-        | inr short ↦ (let e : nat_lt longest_body (n + v.len) ≡ false = grind (arith, nat_tests) in
-            judged_within (n + v.len) vs size short (sym (ap (λ b. cond b (Err MsgSize) (judged (n + v.len) vs)) e) ∙ good))
-      ])
-    ] e
-
+-- the verdict is one of two refusals
 refused_judged : (n : ℕ) (vs : List Iov) (e : Errno) → judged n vs ≡ Err e → IsTrue (is_verdict e)
 refused_judged n [] e h = absurd (let clash : ⊥ = cc in clash)
 refused_judged n (v ∷ vs) e h =
@@ -133,23 +40,8 @@ refused_judged n (v ∷ vs) e h =
       ] good)
     ] h
 
-pub refused_verdict : (list : List ℕ) (count : ℕ) (e : Errno) → Err e ≡ verdict_of (iovs_at list count) → IsTrue (is_verdict e)
-refused_verdict list count e h = refused_judged 0 (iovs_at list count) e (sym h)
-
--- a gather of iovs that were passed begins with all of them
-pub begins_gather : (list : Vec ℕ Global) (count size : ℕ) (a : Address) → length list.items ≡ 16 * count → Ok size ≡ verdict_of (iovs_at list.items count)
-    → IsGather (record { list = list; count = count; next = 0; later = size; size = size; address = a })
-begins_gather list count size a whole said =
-    let all = iovs_from-all list.items count in
-    let size_is = size_judged 0 (iovs_at list.items count) size (sym said) in
-    let bytes : bytes_of (iovs_from list.items 0 count) ≡ size = ap bytes_of all ∙ omega (arith, size_is) in
-    record {
-      list_size = whole;
-      next_within = omega arith;
-      size_within = judged_within 0 (iovs_at list.items count) size (omega arith) (sym said);
-      later_is = sym bytes;
-      later_within = omega arith;
-    }
+pub refused_verdict : (iovs : List Iov) (e : Errno) → Err e ≡ verdict_of iovs → IsTrue (is_verdict e)
+refused_verdict iovs e h = refused_judged 0 iovs e (sym h)
 
 -- a gather has at most two pieces for each iov more than it has whole pages
 gathered_within : (vs : List Iov) → 4096 * length (gathered_pieces vs) ≤ bytes_of vs + 8192 * length vs
@@ -162,14 +54,8 @@ gathered_within (v ∷ vs) =
     omega (arith, more, long, few, rest)
 
 -- at most 8 iovs of a body that is not too long have at most 4,111
-pub few_gathered : (list : List ℕ) (count size : ℕ) → count ≤ 8 → Ok size ≡ verdict_of (iovs_at list count) → length (gathered_pieces (iovs_at list count)) ≤ 4111
-few_gathered list count size few said =
-    let vs = iovs_at list count in
-    let size_is = size_judged 0 vs size (sym said) in
-    let within = judged_within 0 vs size (omega arith) (sym said) in
-    let bound = gathered_within vs in
-    let long : length vs ≡ count = length-map-range_with_len (iov_at list) 0 count in
-    omega (arith, size_is, within, bound, long)
+pub few_gathered : (vs : List Iov) → length vs ≤ 8 → bytes_of vs ≤ longest_body → length (gathered_pieces vs) ≤ 4111
+few_gathered vs few within = let bound = gathered_within vs in omega (arith, within, bound, few)
 
 -- the address that a caller names
 abbrev pub address_in : List ℕ → ℕ → Address
@@ -184,12 +70,12 @@ judged_to kind addr vs (Ok n) os = refl
 judged_to kind addr vs (Err e) os = refl
 
 -- the first of the buffers is fetched, and then the others
-pub buffer_leads : (g : Gather) (c : Cursor) (place : ℕ) (got : Vec ℕ Global) → IsGather g → IsFirstBuffer g.list.items g.count g.next place
-    → pieces_left c ≡ pieces (iov_at g.list.items place).hnd (iov_at g.list.items place).len → c.left ≡ (iov_at g.list.items place).len → IsSound c
-    → length got.items + g.later ≡ g.size
-    → Leads (gather (gathered_pieces (iovs_left g)) got.items g.size (deliver_to g.address)) (length (gathered_pieces (iovs_left g)) + 1) (To (Reading c got (Send (Body (record { list = g.list; count = g.count; next = place + 1; later = g.later - (iov_at g.list.items place).len; size = g.size; address = g.address })))))
-buffer_leads g c place got ready first same left sound size =
-    let later : Gather = record { list = g.list; count = g.count; next = place + 1; later = g.later - (iov_at g.list.items place).len; size = g.size; address = g.address } in
+pub buffer_leads : (g : Gather) (c : Cursor) (place : ℕ) (v : Iov) (got : Vec ℕ Global) → IsGather g → IsFirstBuffer (take g.count g.iovs) g.next place v
+    → pieces_left c ≡ pieces v.hnd v.len → c.left ≡ v.len → IsSound c → length got.items + g.later ≡ g.size
+    → Leads (gather (gathered_pieces (iovs_left g)) got.items g.size (deliver_to g.address)) (length (gathered_pieces (iovs_left g)) + 1)
+    (To (Reading c got (Send (Body (record { iovs = g.iovs; count = g.count; next = place + 1; later = g.later - v.len; size = g.size; address = g.address })))))
+buffer_leads g c place v got ready first same left sound size =
+    let later : Gather = record { iovs = g.iovs; count = g.count; next = place + 1; later = g.later - v.len; size = g.size; address = g.address } in
     let ps = pieces_left c in
     let qs = gathered_pieces (iovs_left later) in
     let k = deliver_to g.address in
@@ -207,8 +93,8 @@ buffer_leads g c place got ready first same left sound size =
         sound = sound;
         size = omega arith;
         ready = record {
-          list_size = ready.list_size;
-          next_within = let within = first.within in omega arith;
+          count_within = ready.count_within;
+          next_within = let within = first.within in let long = length-take g.count g.iovs in omega (arith, within, long);
           size_within = ready.size_within;
           later_is = omega (arith, bytes);
           later_within = let within = ready.later_within in omega arith;

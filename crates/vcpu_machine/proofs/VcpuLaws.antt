@@ -1,5 +1,5 @@
 -- Laws of how far a section is.
-use Rattle.std.proofs.Common.{◌≡◌, ℕ, zero, suc, ◌+◌, ◌*◌, ◌^◌, ◌<◌, ◌≤◌, Bool, true, false, IsTrue, List, [], ◌∷◌, ◌++◌, length, drop, sum_by, Option, Some, None, slice_get, IfSome, inl, inr, refl, sym, ap, ◌∙◌, subst, append_assoc, arith, add-one}
+use Rattle.std.proofs.Common.{◌≡◌, ℕ, ◌+◌, ◌*◌, ◌<◌, ◌≤◌, Bool, true, false, IsTrue, List, [], ◌∷◌, ◌++◌, length, drop, sum_by, Option, Some, None, slice_get, IfSome, inl, inr, refl, sym, ap, ◌∙◌, subst, append_assoc, arith}
 use Rattle.std.proofs.lemmas.Bool.{false≢true, cases_lt}
 use Rattle.std.proofs.lemmas.List.{append-nil, drop-drop}
 use Rattle.std.proofs.lemmas.List.Sums.{sum_by-cons}
@@ -23,26 +23,8 @@ use Rattle.vcpu_machine.specs.Phase.{rest_of, IsAtPhase, GoesOnAlike, HasRoom, p
 use Rattle.vcpu_machine.specs.Steps.{most_steps}
 use Rattle.vcpu_machine.specs.Vcpu.{VcpuAt, lines_left, ahead_of, ahead, left_of, reply_in, StandsFor, StandsAt, progress_after, Begun, GoesOn, Fed, TakesTurn, IsAtLine, NeedsNoCaller, IsOwn, IsOwnAt, HasRoomIf, IsVcpu, Begins}
 use Rattle.vcpu_machine.proofs.FitLaws.{and_true}
+use Rattle.vcpu_machine.proofs.ListLaws.{drop-slice_get, some_here, none_left}
 use Rattle.vcpu_machine.proofs.RangeLaws.{collect-does, put_all-does, some_piece}
-
--- from the place of a value on, a list is that value and then the rest
-pub drop-slice_get : {A : Type 0} (xs : List A) (i : ℕ) (x : A) → slice_get xs i ≡ Some x → drop i xs ≡ x ∷ drop (i + 1) xs
-drop-slice_get [] i x e = cc
-drop-slice_get (y ∷ ys) zero x e = let same : y ≡ x = cc in ap (λ z. z ∷ ys) same
-drop-slice_get (y ∷ ys) (suc i) x e = drop-slice_get ys i x e ∙ rw (add-one, add-one) refl
-
--- before the end of a list there is a value
-pub some_here : {A : Type 0} (xs : List A) (i : ℕ) → i < length xs → (x : A) × (drop i xs ≡ x ∷ drop (i + 1) xs)
-some_here [] i within = absurd (omega arith)
-some_here (y ∷ ys) zero within = (y, refl)
-some_here (y ∷ ys) (suc i) within = let h = some_here ys i (omega arith) in (h.0, h.1 ∙ rw (add-one, add-one) refl)
-
--- and past it there is none
-pub none_left : {A : Type 0} (xs : List A) (i : ℕ) → length xs ≤ i → drop i xs ≡ []
-none_left [] zero past = refl
-none_left [] (suc i) past = refl
-none_left (y ∷ ys) zero past = absurd (omega arith)
-none_left (y ∷ ys) (suc i) past = none_left ys i (omega arith)
 
 -- a line at a phase has an action to come
 pub at_phase_does : (line : Line) (phase : Phase) → IsAtPhase line phase → (a : Action) × (rest_of line phase [] ≡ Do a)
@@ -321,9 +303,15 @@ turn_is : (s : State) (p : Progress) (line : Line) (rest : List Line) (a : Actio
 turn_is s p line rest a o after (Do b) reply done new at lines turns is stands =
     (turn_to p rest a (record { outcome = o; state = after }) (Do b), turns, ap (λ n. n + 1) at, refl, sym is, refl, subst (λ r. StandsAt new (progress_after p o r)) is stands)
 turn_is s p line rest a o after (Say said) reply done new at lines turns is stands =
-    let st : StandsAt new (progress_after p o (Some said)) = subst (λ r. StandsAt new (progress_after p o r)) is stands in
-    (turn_to p rest a (record { outcome = o; state = after }) (Say said), turns, ap (λ n. n + 1) at, refl, sym is, refl,
-    record { actor = st.actor; done = st.done; left = sym (ap (λ ls. drop 1 ls) lines) ∙ st.left; outcomes = st.outcomes })
+    let st : StandsAt new (progress_after p o (Some said)) = subst (λ r. StandsAt new (progress_after p o r)) is stands in (
+      turn_to p rest a (record { outcome = o; state = after }) (Say said),
+      turns,
+      ap (λ n. n + 1) at,
+      refl,
+      sym is,
+      refl,
+      record { actor = st.actor; done = st.done; left = sym (ap (λ ls. drop 1 ls) lines) ∙ st.left; outcomes = st.outcomes },
+    )
 
 done_by : (reply : Option Reply) (v mid new : VcpuAt) → mid.done ≡ v.done → IfSome reply (λ r. new.done ≡ mid.done + 1) → IfSome reply (λ r. new.done ≡ v.done + 1)
 done_by None v mid new same h = tt

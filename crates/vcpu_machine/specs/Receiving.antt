@@ -1,6 +1,6 @@
 -- What follows the fetches of recv.
-use Rattle.std.specs.Prelude.{◌≡◌, ℕ, ◌+◌, ◌*◌, ◌<◌, ◌≤◌, List, [], length, take, IsTrue}
-use Rattle.argo_base.specs.Slots.{is_legal}
+use Rattle.std.specs.Prelude.{◌≡◌, ℕ, ◌+◌, ◌-◌, ◌*◌, ◌%◌, ◌<◌, ◌≤◌, Bool, ◌&&◌, not, nat_lt, List, [], length, take, IsTrue}
+use Rattle.argo_base.specs.Slots.{is_legal, up}
 use Rattle.argo_base.specs.Layout.{u32_at, u32_bytes}
 use Rattle.argo_base.specs.Pieces.{pieces}
 use Rattle.vcpu_machine.specs.declared.reads.OwnRing.{OwnRing}
@@ -12,6 +12,10 @@ use Rattle.argo_model.specs.declared.reply.Reply.TheVariants.{Msg, Fault}
 use Rattle.vcpu_machine.specs.Cursor.{pieces_left, IsSound}
 use Rattle.argo_model.specs.Programs.Asks.{Say, Rests, fetch_all, put_all}
 use Rattle.argo_model.specs.Programs.Recv.{recv_words, recv_head}
+
+-- the length in a header counts the header, and the message ends at the tx word or before it
+abbrev pub is_message_size : ℕ → ℕ → ℕ → ℕ → Bool
+is_message_size len rx tx size = not (nat_lt size 16) && not (nat_lt ((len + tx - rx) % len) (up size))
 
 -- the address of the ring
 abbrev pub ring_at : OwnRing → ℕ

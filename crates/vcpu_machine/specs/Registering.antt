@@ -1,7 +1,8 @@
 -- What follows the fetches of register_ring and unregister_ring.
-use Rattle.std.specs.Prelude.{ℕ, ◌*◌, List, IsTrue}
+use Rattle.std.specs.Prelude.{ℕ, ◌*◌, Bool, ◌&&◌, ◌==◌, List, IsTrue}
 use Rattle.argo_base.specs.Slots.{is_legal, page_count}
 use Rattle.argo_base.specs.Layout.{numbers_at}
+use Rattle.argo_abi.specs.declared.register_ring.RegisterRing.{RegisterRing}
 use Rattle.argo_model.specs.declared.action.Action.{Action}
 use Rattle.argo_model.specs.declared.action.Action.TheVariants.{Register}
 use Rattle.vcpu_machine.specs.declared.reads.NewRing.{NewRing}
@@ -13,6 +14,10 @@ use Rattle.argo_model.specs.Programs.Register.{register_head, unregister_head}
 -- the act that registers a ring on these pages
 abbrev pub register_on : NewRing → List ℕ → Action
 register_on ring pages = Register ring.port ring.partner ring.len pages ring.fail_exist
+
+-- the pad is 0, the length legal, and this the count of its pages
+abbrev pub is_lawful_head : ℕ → RegisterRing → Bool
+is_lawful_head count head = (head.pad == 0) && is_legal head.len && (count == page_count head.len)
 
 -- what follows the bytes
 abbrev pub after_register_read : RegisterRead → List ℕ → Rests

@@ -1,10 +1,11 @@
 -- What follows the fetches of sendv.
-use Rattle.std.specs.Prelude.{◌≡◌, ℕ, ◌+◌, ◌-◌, ◌*◌, ◌<◌, ◌≤◌, List, [], ◌++◌, length, map, sum_by, Option, Some, None, Result, Ok, Err}
-use Rattle.std.specs.List.{range_with_len}
+use Rattle.std.specs.Prelude.{◌≡◌, ℕ, ◌+◌, ◌-◌, ◌*◌, ◌<◌, ◌≤◌, Bool, ◌&&◌, ◌||◌, ◌==◌, List, [], ◌++◌, length, take, drop, sum_by, Option, Some, None, Result, Ok, Err}
 use Rattle.argo_base.specs.declared.errno.Errno.{Errno}
 use Rattle.argo_base.specs.declared.errno.Errno.TheVariants.{Fault as efault}
 use Rattle.argo_base.specs.Pieces.{pieces}
-use Rattle.argo_base.specs.Iovs.{Iov, iov_at, iovs_at, verdict_of, judged, gathered_pieces}
+use Rattle.argo_base.specs.Match.{is_wildcard}
+use Rattle.argo_abi.specs.declared.send_addr.SendAddr.{SendAddr}
+use Rattle.argo_base.specs.Iovs.{Iov, iovs_at, verdict_of, gathered_pieces}
 use Rattle.argo_base.specs.Limits.{longest_body}
 use Rattle.argo_model.specs.declared.action.Action.{Action}
 use Rattle.argo_model.specs.declared.action.Action.TheVariants.{Deliver}
@@ -16,6 +17,14 @@ use Rattle.vcpu_machine.specs.declared.reads.SendRead.{SendRead}
 use Rattle.vcpu_machine.specs.declared.reads.SendRead.TheVariants.{Head, Iovs, Body}
 use Rattle.argo_model.specs.Programs.Asks.{Rests, ask, refusal}
 use Rattle.argo_model.specs.Programs.Send.{say_accepted, gather, send_head}
+
+-- both pads are 0
+abbrev pub clear_pads : SendAddr → Bool
+clear_pads addr = (addr.src.pad == 0) && (addr.dst.pad == 0)
+
+-- the source names the caller, or the wildcard
+abbrev pub own_source : ℕ → SendAddr → Bool
+own_source caller addr = (addr.src.domain_id == caller) || is_wildcard addr.src.domain_id
 
 -- the act that delivers a load to an address
 abbrev pub delivered_to : Address → Load → Action
@@ -30,43 +39,34 @@ abbrev pub send_judged_to : Address → List Iov → Result ℕ Errno → Rests
 send_judged_to a iovs (Err e) os = deliver_to a (RefusedLoad e) os
 send_judged_to a iovs (Ok n) os = gather (gathered_pieces iovs) [] n (deliver_to a) os
 
--- the iovs of a list from a place on, up to a count
-abbrev pub iovs_from : List ℕ → ℕ → ℕ → List Iov
-iovs_from list place count = map (iov_at list) (range_with_len place (count - place))
-
--- those that a gather has still to come to
-abbrev pub iovs_left : Gather → List Iov
-iovs_left g = iovs_from g.list.items g.next g.count
-
--- the bytes of those iovs
+-- the bytes of some iovs
 abbrev pub bytes_of : List Iov → ℕ
 bytes_of iovs = sum_by (λ v. v.len) iovs
 
+-- those that a gather has still to come to
+abbrev pub iovs_left : Gather → List Iov
+iovs_left g = drop g.next (take g.count g.iovs)
+
 -- from a place on, this is the first buffer that has bytes
-pub record IsFirstBuffer (list : List ℕ) (count from place : ℕ) : Type 0 where
-  pub within : place < count
-  pub some : 0 < (iov_at list place).len
-  pub pieces_are : gathered_pieces (iovs_from list from count) ≡ pieces (iov_at list place).hnd (iov_at list place).len ++ gathered_pieces (iovs_from list (place + 1) count)
-  pub bytes_are : bytes_of (iovs_from list from count) ≡ (iov_at list place).len + bytes_of (iovs_from list (place + 1) count)
+pub record IsFirstBuffer (iovs : List Iov) (from place : ℕ) (v : Iov) : Type 0 where
+  pub within : place < length iovs
+  pub some : 0 < v.len
+  pub pieces_are : gathered_pieces (drop from iovs) ≡ pieces v.hnd v.len ++ gathered_pieces (drop (place + 1) iovs)
+  pub bytes_are : bytes_of (drop from iovs) ≡ v.len + bytes_of (drop (place + 1) iovs)
 
 -- from a place on, no buffer has bytes, or this is the first
-abbrev pub IsNextBuffer : List ℕ → ℕ → ℕ → Option ℕ → Type 0
-IsNextBuffer list count from None = (gathered_pieces (iovs_from list from count) ≡ []) × (bytes_of (iovs_from list from count) ≡ 0)
-IsNextBuffer list count from (Some place) = IsFirstBuffer list count from place
+abbrev pub IsNextBuffer : List Iov → ℕ → Option (ℕ × Iov) → Type 0
+IsNextBuffer iovs from None = (gathered_pieces (drop from iovs) ≡ []) × (bytes_of (drop from iovs) ≡ 0)
+IsNextBuffer iovs from (Some (place, v)) = IsFirstBuffer iovs from place v
 
 -- the buffers from a place up to another have no bytes
-pub record SkipsTo (list : List ℕ) (count from place : ℕ) : Type 0 where
-  pub pieces_are : gathered_pieces (iovs_from list from count) ≡ gathered_pieces (iovs_from list place count)
-  pub bytes_are : bytes_of (iovs_from list from count) ≡ bytes_of (iovs_from list place count)
+pub record SkipsTo (iovs : List Iov) (from place : ℕ) : Type 0 where
+  pub pieces_are : gathered_pieces (drop from iovs) ≡ gathered_pieces (drop place iovs)
+  pub bytes_are : bytes_of (drop from iovs) ≡ bytes_of (drop place iovs)
 
--- the iovs up to a place are passed, with so many bytes
-pub record PassesTo (list : List ℕ) (count place size : ℕ) : Type 0 where
-  pub verdict_is : verdict_of (iovs_at list count) ≡ judged size (iovs_from list place count)
-  pub size_within : size ≤ longest_body
-
--- the iovs are all there, and the body is no longer than the longest
+-- the buffers are there, and the body is no longer than the longest
 pub record IsGather (g : Gather) : Type 0 where
-  pub list_size : length g.list.items ≡ 16 * g.count
+  pub count_within : g.count ≤ 8
   pub next_within : g.next ≤ g.count
   pub size_within : g.size ≤ longest_body
   pub later_is : g.later ≡ bytes_of (iovs_left g)

@@ -13,15 +13,12 @@ use crate::blank::Blank;
 use crate::cursor::Cursor;
 use crate::phase::{Phase, Question, Reader};
 use crate::reading::reading;
-use crate::reads::{RegisterRead, SendRead};
+use crate::reads::{MOST_IOVS, RegisterRead, SendRead};
 use argo_base::{DomId, Errno};
 use argo_model::Actor;
 
 /// The rings that one notify sweeps at most.
 const MOST_SWEEPS: u32 = 128;
-
-/// The buffers that one sendv takes at most.
-const MOST_IOVS: u64 = 8;
 
 /// The hypercall argo_op: its caller and its arguments.
 #[derive(Clone, Copy)]
@@ -74,7 +71,7 @@ impl Call {
     fn sendv(&self, blank: Blank) -> Phase
         ensures { Leads (sends self.now.caller self.now.a1 self.now.a2 self.now.a3 self.now.a4) 4117 (Followed.To result) }
     {
-        if MOST_IOVS < self.a3 || 0x1_0000_0000 <= self.a4 {
+        if (MOST_IOVS as u64) < self.a3 || 0x1_0000_0000 <= self.a4 {
             return refuse(Errno::Inval);
         }
         let read = SendRead::Head {

@@ -1,18 +1,83 @@
 //! The fields of Xen's structures, read from their bytes and written as such.
 
 ghost use Rattle.std.specs.Prelude.{◌≡◌, ◌+◌, ◌*◌, ◌≤◌, length, IfOk};
-ghost use Rattle.argo_base.specs.Layout.{u16_at, u32_at, u64_at, numbers_at, answer_bytes};
+ghost use Rattle.argo_base.specs.Iovs.{iov_at};
+ghost use Rattle.argo_base.specs.Layout.{u32_at, u64_at, numbers_at, answer_bytes};
+ghost use Rattle.argo_abi.specs.Structures.{register_ring_of, unregister_ring_of, send_addr_of, ring_data_of, ring_data_entry_of, message_head_of};
 
+use argo_abi::{
+    Iov, MessageHead, RegisterRing, RingData, RingDataEntry, SendAddr, UnregisterRing, get_iov,
+    get_message_head, get_register_ring, get_ring_data, get_ring_data_entry, get_send_addr,
+    get_unregister_ring,
+};
 use argo_base::{NoMemory, PageList};
 use argo_model::Answer;
 use std::alloc::Global;
 
-/// The field of 2 bytes at an offset.
-pub(crate) fn read_u16(bytes: &[u8], off: usize) -> u16
-    requires { off + 2 ≤ length bytes.now }
-    ensures { result ≡ u16_at bytes.now off }
+/// These bytes as an array.
+fn array<const N: usize>(bytes: &[u8]) -> [u8; N]
+    requires { length bytes.now ≡ N }
+    ensures { result ≡ bytes.now }
 {
-    u16::from_le_bytes([bytes[off], bytes[off + 1]])
+    let mut array = [0; N];
+    array.copy_from_slice(bytes);
+    array
+}
+
+/// The structure of register_ring.
+pub(crate) fn register_ring(bytes: &[u8]) -> RegisterRing
+    requires { length bytes.now ≡ 12 }
+    ensures { result ≡ register_ring_of bytes.now }
+{
+    get_register_ring(&array(bytes))
+}
+
+/// The structure of unregister_ring.
+pub(crate) fn unregister_ring(bytes: &[u8]) -> UnregisterRing
+    requires { length bytes.now ≡ 8 }
+    ensures { result ≡ unregister_ring_of bytes.now }
+{
+    get_unregister_ring(&array(bytes))
+}
+
+/// The addresses of a sendv.
+pub(crate) fn send_addr(bytes: &[u8]) -> SendAddr
+    requires { length bytes.now ≡ 16 }
+    ensures { result ≡ send_addr_of bytes.now }
+{
+    get_send_addr(&array(bytes))
+}
+
+/// A buffer of a sendv.
+pub(crate) fn iov(bytes: &[u8]) -> Iov
+    requires { length bytes.now ≡ 16 }
+    ensures { result ≡ iov_at bytes.now 0 }
+{
+    get_iov(&array(bytes))
+}
+
+/// The head of a notify.
+pub(crate) fn ring_data(bytes: &[u8]) -> RingData
+    requires { length bytes.now ≡ 8 }
+    ensures { result ≡ ring_data_of bytes.now }
+{
+    get_ring_data(&array(bytes))
+}
+
+/// An entry of a notify.
+pub(crate) fn ring_data_entry(bytes: &[u8]) -> RingDataEntry
+    requires { length bytes.now ≡ 20 }
+    ensures { result ≡ ring_data_entry_of bytes.now }
+{
+    get_ring_data_entry(&array(bytes))
+}
+
+/// The header of a message.
+pub(crate) fn message_head(bytes: &[u8]) -> MessageHead
+    requires { length bytes.now ≡ 16 }
+    ensures { result ≡ message_head_of bytes.now }
+{
+    get_message_head(&array(bytes))
 }
 
 /// The field of 4 bytes at an offset.

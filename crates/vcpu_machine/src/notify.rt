@@ -7,7 +7,7 @@ ghost use Rattle.argo_model.specs.Programs.Notify.{sweep_rings, notify_head, not
 
 use crate::blank::Blank;
 use crate::cursor::Cursor;
-use crate::layout::{read_u16, read_u32};
+use crate::layout::{ring_data, ring_data_entry};
 use crate::phase::{Followed, Phase, Question, Reader, Text};
 use crate::reading::{reading, refusal};
 use crate::reads::{Entry, NotifyRead};
@@ -35,14 +35,15 @@ impl Entry {
         requires size { length entry.now ≡ 20 }
         ensures { Leads (answer_entry (entry_at self) entry.now (answer_entries (places_after self))) (5 * self.later + 3) result }
     {
-        if read_u16(entry, 6) != 0 || read_u16(entry, 10) != 0 {
+        let asked = ring_data_entry(entry);
+        if asked.ring.pad != 0 || asked.pad != 0 {
             return Followed::Over(refusal(Errno::Inval));
         }
         Followed::To(Phase::Asking(Question::Query {
             entry: self,
-            to: DomId(read_u16(entry, 4)),
-            to_port: read_u32(entry, 0),
-            need: read_u32(entry, 12),
+            to: DomId(asked.ring.domain_id),
+            to_port: asked.ring.aport,
+            need: asked.space_required,
         }))
     }
 
@@ -107,18 +108,18 @@ pub(crate) fn begin(blank: Blank, base: u64) -> Followed
 }
 
 // After the 8 bytes that count the entries.
-fn head(blank: Blank, base: u64, head: &[u8]) -> Followed
-    requires { length head.now ≡ 8 }
-    ensures { Leads (notify_head base head.now) 1280 result }
+fn head(blank: Blank, base: u64, bytes: &[u8]) -> Followed
+    requires { length bytes.now ≡ 8 }
+    ensures { Leads (notify_head base bytes.now) 1280 result }
 {
-    if read_u32(head, 4) != 0 {
+    let head = ring_data(bytes);
+    if head.pad != 0 {
         return Followed::Over(refusal(Errno::Inval));
     }
-    let count = read_u32(head, 0);
-    if MOST_ENTRIES < count {
+    if MOST_ENTRIES < head.nent {
         return Followed::Over(refusal(Errno::Acces));
     }
-    entries(blank, base, 0, count)
+    entries(blank, base, 0, head.nent)
 }
 
 // So many entries from a place on.

@@ -14,8 +14,7 @@ use crate::layout::read_numbers;
 use crate::notify;
 use crate::phase::{Followed, Phase, Question};
 use crate::reading::refusal;
-use crate::register::page_count;
-use argo_base::{Bytes, NoMemory};
+use argo_base::{Bytes, NoMemory, slots};
 use argo_model::{Action, Load, Outcome, Reply};
 use std::alloc::Global;
 
@@ -43,7 +42,7 @@ impl Question {
                 partner: *partner,
             }),
             Question::Register { ring, list } => {
-                let pages = read_numbers(alloc, list.as_slice(), page_count(ring.len))?;
+                let pages = read_numbers(alloc, list.as_slice(), slots::page_count(ring.len))?;
                 Ok(ring.on(pages))
             }
             Question::Deliver { address, load } => {

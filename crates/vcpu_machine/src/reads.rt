@@ -1,7 +1,11 @@
 //! What the fetches of hypercalls and of recv are for.
 
 use crate::cursor::Cursor;
+use argo_abi::Iov;
 use argo_base::DomId;
+
+/// The buffers that one sendv takes at most.
+pub(crate) const MOST_IOVS: usize = 8;
 
 /// A ring that is to be registered.
 #[derive(Clone, Copy)]
@@ -33,13 +37,13 @@ pub(crate) struct Address {
     pub(crate) kind: u32,
 }
 
-/// What is left of a gather after the buffer that is being fetched: `count` iovs as they were read, from the place `next` on.
+/// What is left of a gather after the buffer that is being fetched: the first `count` buffers, from the place `next` on.
 #[derive(Drop)]
 pub(crate) struct Gather {
-    pub(crate) list: Vec<u8>,
-    pub(crate) count: u32,
-    pub(crate) next: u32,
-    /// The bytes of those iovs.
+    pub(crate) iovs: [Iov; MOST_IOVS],
+    pub(crate) count: usize,
+    pub(crate) next: usize,
+    /// The bytes of those buffers.
     pub(crate) later: u32,
     /// The size of the whole body.
     pub(crate) size: u32,

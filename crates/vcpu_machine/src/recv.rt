@@ -1,19 +1,18 @@
 //! The guest's library takes a message from a ring of its own.
 
 ghost use Rattle.std.specs.Prelude.{◌≡◌, ℕ, ◌+◌, min, ◌*◌, ◌/◌, ◌%◌, ◌<◌, ◌≤◌, length, IsTrue};
-ghost use Rattle.argo_base.specs.Slots.{up as rounded_up, is_place as place_fits, place_after as after_place};
-ghost use Rattle.argo_model.specs.Programs.Recv.{recv, recv_words, recv_head, is_message_head as message_fits, take_slots};
-ghost use Rattle.vcpu_machine.specs.Receiving.{received_by, taken, IsRing, IsTaking, HasTakingSize, most_after_taking};
+ghost use Rattle.argo_model.specs.Programs.Recv.{recv, recv_words, recv_head, take_slots};
+ghost use Rattle.vcpu_machine.specs.Receiving.{is_message_size, received_by, taken, IsRing, IsTaking, HasTakingSize, most_after_taking};
 ghost use Rattle.vcpu_machine.specs.Followed.{Leads};
 ghost use Rattle.vcpu_machine.specs.declared.phase.Followed.{Followed};
 
 use crate::blank::Blank;
 use crate::cursor::Cursor;
-use crate::layout::{read_u16, read_u32};
+use crate::layout::{message_head, read_u32};
 use crate::phase::{Followed, Phase, Reader, Text};
 use crate::reading::reading;
 use crate::reads::{Header, OwnRing, RecvRead, Taking};
-use argo_base::{Bytes, DomId};
+use argo_base::{Bytes, DomId, slots};
 use argo_model::Reply;
 
 /// The first bytes of a body, which a reply shows.
@@ -112,7 +111,7 @@ impl OwnRing {
         requires { IsRing self }
         ensures { Leads (recv_words (self.page * 4096) self.len rx tx) 4106 result }
     {
-        if !is_place(self.len, rx) || !is_place(self.len, tx) {
+        if !slots::is_place(self.len, rx) || !slots::is_place(self.len, tx) {
             return Followed::Over(Reply::Bad);
         }
         if rx == tx {
@@ -130,17 +129,17 @@ impl OwnRing {
         requires size { length head.now ≡ 16 }
         ensures { Leads (recv_head (self.page * 4096) self.len rx tx head.now) 4102 result }
     {
-        if !is_message_head(self.len, rx, tx, head) {
+        let said = message_head(head);
+        if !is_message_head(self.len, rx, tx, said.len) {
             return Followed::Over(Reply::Bad);
         }
-        let len = read_u32(head, 0);
         let header = Header {
-            src: DomId(read_u16(head, 8)),
-            port: read_u32(head, 4),
-            kind: read_u32(head, 12),
-            size: len - 16,
+            src: DomId(said.source.domain_id),
+            port: said.source.aport,
+            kind: said.message_type,
+            size: said.len - 16,
         };
-        let word = place_after(self.len, rx, up(len) as u32);
+        let word = slots::place_after(self.len, rx, slots::up(said.len));
         let size = header.size;
         if size == 0 {
             return self.take(word, header, blank.into_vec());
@@ -150,7 +149,7 @@ impl OwnRing {
             word,
             header,
         };
-        self.slots(blank, place_after(self.len, rx, 16), size, taking)
+        self.slots(blank, slots::place_after(self.len, rx, 16), size, taking)
     }
 
     // The slot bytes from a place on.
@@ -164,9 +163,9 @@ impl OwnRing {
         ensures { Leads (take_slots (self.page * 4096) self.len at n (taken taking)) (n / 4096 + 4 + most_after_taking taking) result }
     {
         let first = n.min(self.len - at);
-        let slots = self.address() + 64;
-        let rest = Cursor::over(slots + u64::from(at), first);
-        let later = Cursor::over(slots, n - first);
+        let places = self.address() + 64;
+        let rest = Cursor::over(places + u64::from(at), first);
+        let later = Cursor::over(places, n - first);
         let reader = Reader::Recv(RecvRead::Slots { later, taking });
         Followed::To(reading(blank, rest, reader))
     }
@@ -203,36 +202,11 @@ pub(crate) fn start(blank: Blank, page: u32, len: u32) -> Phase
 }
 
 // Whether the length in the header counts the header, and the message ends at the tx word or before it.
-fn is_message_head(len: u32, rx: u32, tx: u32, head: &[u8]) -> bool
+fn is_message_head(len: u32, rx: u32, tx: u32, size: u32) -> bool
     requires len { len ≤ 0x1000000 }
     requires rx { rx < len }
     requires tx { tx < len }
-    requires size { length head.now ≡ 16 }
-    ensures { result ≡ message_fits len rx tx head.now }
+    ensures { result ≡ is_message_size len rx tx size }
 {
-    let size = read_u32(head, 0);
-    16 <= size && up(size) <= u64::from((len + tx - rx) % len)
-}
-
-// The least multiple of 16 that is not below n.
-fn up(n: u32) -> u64
-    ensures { result ≡ rounded_up n }
-{
-    (u64::from(n) + 15) / 16 * 16
-}
-
-// Whether a message can begin there.
-fn is_place(len: u32, at: u32) -> bool
-    ensures { result ≡ place_fits len at }
-{
-    at % 16 == 0 && at < len
-}
-
-// So many bytes after a place, round the ring's end.
-fn place_after(len: u32, at: u32, n: u32) -> u32
-    requires len { (at < len) × (len ≤ 0x1000000) }
-    requires n { n ≤ 0x1000000 }
-    ensures { result ≡ after_place len at n }
-{
-    (at + n) % len
+    16 <= size && slots::up(size) <= u64::from((len + tx - rx) % len)
 }

@@ -1,17 +1,18 @@
 //! The calls that register a ring, or take one away.
 
 ghost use Rattle.std.specs.Prelude.{◌≡◌, ◌&&◌, ◌==◌, length, IsTrue};
-ghost use Rattle.argo_base.specs.Slots.{is_legal as legal, page_count as pages_of};
 ghost use Rattle.vcpu_machine.specs.Followed.{Leads};
-ghost use Rattle.argo_model.specs.Programs.Register.{register_head, unregister_head, is_register_head as register_fits};
+ghost use Rattle.vcpu_machine.specs.Registering.{is_lawful_head};
+ghost use Rattle.argo_model.specs.Programs.Register.{register_head, unregister_head};
 
 use crate::blank::Blank;
 use crate::cursor::Cursor;
-use crate::layout::{read_u16, read_u32};
+use crate::layout::{register_ring, unregister_ring};
 use crate::phase::{Followed, Phase, Question, Reader};
 use crate::reading::{reading, refusal};
 use crate::reads::{NewRing, RegisterRead};
-use argo_base::{DomId, Errno, PageList};
+use argo_abi::RegisterRing;
+use argo_base::{DomId, Errno, PageList, slots};
 use argo_model::Action;
 
 impl NewRing {
@@ -54,31 +55,33 @@ impl RegisterRead {
 }
 
 // After the structure of unregister_ring.
-fn unregister(head: &[u8]) -> Followed
-    requires { length head.now ≡ 8 }
-    ensures { Leads (unregister_head head.now) 1 result }
+fn unregister(bytes: &[u8]) -> Followed
+    requires { length bytes.now ≡ 8 }
+    ensures { Leads (unregister_head bytes.now) 1 result }
 {
-    if read_u16(head, 6) != 0 {
+    let head = unregister_ring(bytes);
+    if head.pad != 0 {
         return Followed::Over(refusal(Errno::Inval));
     }
     Followed::To(Phase::Asking(Question::Unregister {
-        port: read_u32(head, 0),
-        partner: DomId(read_u16(head, 4)),
+        port: head.aport,
+        partner: DomId(head.partner_id),
     }))
 }
 
 // After the structure of register_ring.
-fn register(blank: Blank, list: u64, count: u64, flags: u64, head: &[u8]) -> Followed
-    requires { length head.now ≡ 12 }
-    ensures { Leads (register_head list count flags head.now) 11 result }
+fn register(blank: Blank, list: u64, count: u64, flags: u64, bytes: &[u8]) -> Followed
+    requires { length bytes.now ≡ 12 }
+    ensures { Leads (register_head list count flags bytes.now) 11 result }
 {
-    if !is_register_head(count, head) {
+    let head = register_ring(bytes);
+    if !is_lawful(count, &head) {
         return Followed::Over(refusal(Errno::Inval));
     }
     let ring = NewRing {
-        port: read_u32(head, 0),
-        partner: DomId(read_u16(head, 4)),
-        len: read_u32(head, 8),
+        port: head.aport,
+        partner: DomId(head.partner_id),
+        len: head.len,
         fail_exist: flags == 1,
     };
     let rest = Cursor::over(list, 8 * count as u32);
@@ -87,25 +90,8 @@ fn register(blank: Blank, list: u64, count: u64, flags: u64, head: &[u8]) -> Fol
 }
 
 // Whether the structure is a lawful one, and this the count of its pages.
-fn is_register_head(count: u64, head: &[u8]) -> bool
-    requires { length head.now ≡ 12 }
-    ensures { result ≡ register_fits count head.now }
+fn is_lawful(count: u64, head: &RegisterRing) -> bool
+    ensures { result ≡ is_lawful_head count head.now }
 {
-    let len = read_u32(head, 8);
-    read_u16(head, 6) == 0 && is_legal(len) && count == u64::from(page_count(len))
-}
-
-// Whether a ring may have so many slot bytes.
-fn is_legal(len: u32) -> bool
-    ensures { result ≡ legal len }
-{
-    48 <= len && len <= 0x1000000 && len % 16 == 0
-}
-
-/// The pages that hold 64 bytes of header and so many slot bytes.
-pub(crate) fn page_count(len: u32) -> u32
-    requires { IsTrue (legal len) }
-    ensures { result ≡ pages_of len }
-{
-    (len + 64 + 4095) / 4096
+    head.pad == 0 && slots::is_legal(head.len) && count == u64::from(slots::page_count(head.len))
 }

@@ -1,23 +1,21 @@
 //! The call sendv.
 
-ghost use Rattle.std.specs.Prelude.{◌≡◌, ◌+◌, ◌*◌, ◌≤◌, length, IsTrue};
-ghost use Rattle.argo_base.specs.Iovs.{iov_at, iovs_at, is_bad_iov, verdict_of as judge, gathered_pieces};
+ghost use Rattle.std.specs.Prelude.{◌≡◌, ◌+◌, ◌*◌, ◌≤◌, length, take, IsTrue};
+ghost use Rattle.argo_base.specs.Iovs.{iov_at, iovs_at, verdict_of as judge, gathered_pieces};
 ghost use Rattle.argo_model.specs.Rules.Fit.{is_fit_load};
-ghost use Rattle.argo_model.specs.Programs.Send.{send_head, gather as gathers, is_send_addr as addr_fits, is_own_source as source_fits};
-ghost use Rattle.vcpu_machine.specs.Sending.{deliver_to, send_judged_to, IsNextBuffer};
+ghost use Rattle.argo_model.specs.Programs.Send.{send_head, gather as gathers};
+ghost use Rattle.vcpu_machine.specs.Sending.{clear_pads, own_source, deliver_to, send_judged_to, IsNextBuffer};
 ghost use Rattle.vcpu_machine.specs.Followed.{Leads};
 
 use crate::blank::Blank;
 use crate::cursor::Cursor;
-use crate::layout::{read_u16, read_u32, read_u64};
+use crate::layout::{iov, send_addr};
 use crate::phase::{Followed, Phase, Question, Reader};
 use crate::reading::{reading, refusal};
-use crate::reads::{Address, Gather, SendRead};
+use crate::reads::{Address, Gather, MOST_IOVS, SendRead};
+use argo_abi::{Iov, SendAddr};
 use argo_base::{Bytes, DomId, Errno};
 use argo_model::{Action, Load};
-
-/// The longest body.
-const LONGEST_BODY: u32 = 0xFFFFE0;
 
 impl Address {
     ghost use Rattle.vcpu_machine.specs.Sending.{delivered_to};
@@ -78,7 +76,7 @@ impl SendRead {
 }
 
 impl Gather {
-    ghost use Rattle.vcpu_machine.specs.Sending.{IsGather, iovs_left};
+    ghost use Rattle.vcpu_machine.specs.Sending.{IsGather, IsFirstBuffer, iovs_left};
 
     // Where the gather goes with what it got so far.
     fn go_on(self, got: Vec<u8>) -> Followed
@@ -86,11 +84,20 @@ impl Gather {
         requires size { length got.items + self.later ≡ self.size }
         ensures { Leads (gathers (gathered_pieces (iovs_left self)) got.items self.size (deliver_to self.address)) (length (gathered_pieces (iovs_left self)) + 1) result }
     {
-        let list = self.list.as_slice();
-        let Some(place) = next_buffer(list, self.count, self.next) else {
+        let (iovs, _) = self.iovs.split_at(self.count);
+        let Some((place, iov)) = next_buffer(iovs, self.next) else {
             return deliver(self.address, Load::Body(Bytes::from_vec(got)));
         };
-        let iov = read_iov(list, place);
+        self.buffer(place, iov, got)
+    }
+
+    // The buffer at a place is fetched, which is the first of those left that has bytes.
+    fn buffer(self, place: usize, iov: Iov, got: Vec<u8>) -> Followed
+        requires ready { IsGather self }
+        requires first { IsFirstBuffer (take self.count self.iovs) self.next place iov }
+        requires size { length got.items + self.later ≡ self.size }
+        ensures { Leads (gathers (gathered_pieces (iovs_left self)) got.items self.size (deliver_to self.address)) (length (gathered_pieces (iovs_left self)) + 1) result }
+    {
         let rest = Cursor::over(iov.hnd, iov.len);
         let gather = Gather {
             next: place + 1,
@@ -114,29 +121,22 @@ fn deliver(address: Address, load: Load) -> Followed
 }
 
 // After the addresses.
-fn head(
-    blank: Blank,
-    got: Vec<u8>,
-    caller: DomId,
-    iovs: u64,
-    count: u32,
-    kind: u32,
-) -> Followed
+fn head(blank: Blank, got: Vec<u8>, caller: DomId, iovs: u64, count: u32, kind: u32) -> Followed
     requires size { length got.items ≡ 16 }
     requires few { count ≤ 8 }
     ensures { Leads (send_head caller iovs count kind got.items) 4115 result }
 {
-    let addr = got.as_slice();
-    if !is_send_addr(addr) {
+    let addr = send_addr(got.as_slice());
+    if !has_no_pads(&addr) {
         return Followed::Over(refusal(Errno::Inval));
     }
-    if !is_own_source(caller, addr) {
+    if !has_own_source(caller, &addr) {
         return Followed::Over(refusal(Errno::Perm));
     }
     let address = Address {
-        port: read_u32(addr, 0),
-        to: DomId(read_u16(addr, 12)),
-        to_port: read_u32(addr, 8),
+        port: addr.src.aport,
+        to: DomId(addr.dst.domain_id),
+        to_port: addr.dst.aport,
         kind,
     };
     if count == 0 {
@@ -150,34 +150,34 @@ fn head(
 }
 
 // Whether both pads are 0.
-fn is_send_addr(addr: &[u8]) -> bool
-    requires { length addr.now ≡ 16 }
-    ensures { result ≡ addr_fits addr.now }
+fn has_no_pads(addr: &SendAddr) -> bool
+    ensures { result ≡ clear_pads addr.now }
 {
-    read_u16(addr, 6) == 0 && read_u16(addr, 14) == 0
+    addr.src.pad == 0 && addr.dst.pad == 0
 }
 
 // Whether the source names the caller, or the wildcard.
-fn is_own_source(caller: DomId, addr: &[u8]) -> bool
-    requires { length addr.now ≡ 16 }
-    ensures { result ≡ source_fits caller addr.now }
+fn has_own_source(caller: DomId, addr: &SendAddr) -> bool
+    ensures { result ≡ own_source caller addr.now }
 {
-    let named = DomId(read_u16(addr, 4));
+    let named = DomId(addr.src.domain_id);
     named == caller || named == DomId::ANY
 }
 
-// After the iovs.
+// After the buffers.
 fn judged(blank: Blank, list: Vec<u8>, count: u32, address: Address) -> Followed
     requires size { length list.items ≡ 16 * count }
     requires few { count ≤ 8 }
     ensures { Leads (send_judged_to address (iovs_at list.items count) (judge (iovs_at list.items count))) 4112 result }
 {
-    match verdict_of(list.as_slice(), count) {
+    let iovs = read_iovs(list.as_slice(), count as usize);
+    let (given, _) = iovs.split_at(count as usize);
+    match iov_plan::count(given) {
         Err(e) => deliver(address, Load::Refused(e)),
         Ok(size) => {
             let gather = Gather {
-                list,
-                count,
+                iovs,
+                count: count as usize,
                 next: 0,
                 later: size,
                 size,
@@ -188,66 +188,43 @@ fn judged(blank: Blank, list: Vec<u8>, count: u32, address: Address) -> Followed
     }
 }
 
-/// A buffer of a sender: `struct xen_argo_iov`.
-#[derive(Clone, Copy)]
-struct Iov {
-    hnd: u64,
-    len: u32,
-    pad: u32,
-}
-
-impl Iov {
-    // Whether the iov is refused by itself.
-    fn is_bad(self) -> bool
-        ensures { result ≡ is_bad_iov (record { hnd = self.hnd; len = self.len; pad = self.pad }) }
-    {
-        self.pad != 0 || LONGEST_BODY < self.len
-    }
-}
-
-// The iov at a place of a list of them.
-fn read_iov(list: &[u8], place: u32) -> Iov
-    requires { 16 * place + 16 ≤ length list.now }
-    ensures hnd { result.hnd ≡ (iov_at list.now place).hnd }
-    ensures len { result.len ≡ (iov_at list.now place).len }
-    ensures pad { result.pad ≡ (iov_at list.now place).pad }
-{
-    let at = 16 * place as usize;
-    Iov {
-        hnd: read_u64(list, at),
-        len: read_u32(list, at + 8),
-        pad: read_u32(list, at + 12),
-    }
-}
-
-// The size of the body, or the refusal of its buffers.
-fn verdict_of(list: &[u8], count: u32) -> Result<u32, Errno>
+// The first so many buffers of a list of them.
+fn read_iovs(list: &[u8], count: usize) -> [Iov; MOST_IOVS]
     requires size { length list.now ≡ 16 * count }
-    ensures { result ≡ judge (iovs_at list.now count) }
+    requires few { count ≤ 8 }
+    ensures { take count result ≡ iovs_at list.now count }
 {
-    let mut size = 0;
+    let none = Iov {
+        hnd: 0,
+        len: 0,
+        pad: 0,
+    };
+    let mut iovs = [none; MOST_IOVS];
     for i in 0..count {
-        let iov = read_iov(list, i);
-        if iov.is_bad() {
-            return Err(Errno::Inval);
-        }
-        if LONGEST_BODY < size + iov.len {
-            return Err(Errno::MsgSize);
-        }
-        size += iov.len;
+        iovs[i] = read_iov(list, i);
     }
-    Ok(size)
+    iovs
 }
 
-// The place of the first buffer from a place on that has bytes.
-fn next_buffer(list: &[u8], count: u32, from: u32) -> Option<u32>
-    requires size { length list.now ≡ 16 * count }
-    requires within { from ≤ count }
-    ensures { IsNextBuffer list.now count from result }
+// The buffer at a place of a list of them.
+fn read_iov(list: &[u8], place: usize) -> Iov
+    requires { 16 * place + 16 ≤ length list.now }
+    ensures { result ≡ iov_at list.now place }
 {
-    for i in from..count {
-        if read_iov(list, i).len != 0 {
-            return Some(i);
+    let (_, rest) = list.split_at(16 * place);
+    let (here, _) = rest.split_at(16);
+    iov(here)
+}
+
+// The first buffer from a place on that has bytes, with its place.
+fn next_buffer(iovs: &[Iov], from: usize) -> Option<(usize, Iov)>
+    requires { from ≤ length iovs.now }
+    ensures { IsNextBuffer iovs.now from result }
+{
+    for i in from..iovs.len() {
+        let iov = iovs[i];
+        if iov.len != 0 {
+            return Some((i, iov));
         }
     }
     None

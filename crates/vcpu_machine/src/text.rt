@@ -44,7 +44,13 @@ impl Text {
     }
 
     /// Where a line goes that puts, with an outcome of the first piece.
-    pub(crate) fn moved(self, blank: Blank, line: &Line, rest: Cursor, outcome: &Outcome) -> Followed
+    pub(crate) fn moved(
+        self,
+        blank: Blank,
+        line: &Line,
+        rest: Cursor,
+        outcome: &Outcome,
+    ) -> Followed
         requires { IsWriting line.now rest self }
         ensures { Follows line.now (Phase.Writing rest self) outcome.now result }
     {

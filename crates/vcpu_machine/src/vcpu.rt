@@ -149,11 +149,7 @@ impl Vcpu {
     }
 
     /// As `turn`, with the outcome in short.
-    pub fn step<A: Access>(
-        &mut self,
-        v: u32,
-        a: &mut A,
-    ) -> Result<(Short, Option<Reply>), NoMemory>
+    pub fn step<A: Access>(&mut self, v: u32, a: &mut A) -> Result<(Short, Option<Reply>), NoMemory>
         requires unfinished { self.old.done < length self.old.part.lines }
         requires section { slice_get (A.actors a.old) v ≡ Some self.old.part.actor }
         requires few { IsTrue (has_steps_left (A.totals a.old) v) }

@@ -5,26 +5,32 @@ use Rattle.vcpu_machine.specs.declared.reads.Address.{Address}
 use Rattle.vcpu_machine.specs.declared.reads.SendRead.TheVariants.{Iovs}
 use Rattle.vcpu_machine.specs.declared.phase.Reader.TheVariants.{Send}
 use Rattle.vcpu_machine.specs.declared.phase.Followed.TheVariants.{To}
+use Rattle.argo_abi.specs.declared.send_addr.SendAddr.{SendAddr}
 use Rattle.argo_model.specs.Programs.Asks.{read, refusal, refuse_if}
 use Rattle.vcpu_machine.specs.Followed.{Leads}
 use Rattle.argo_model.specs.Programs.Send.{send_head, send_iovs, is_send_addr, is_own_source}
 use Rattle.vcpu_machine.specs.Cursor.{pieces_left}
-use Rattle.vcpu_machine.specs.Sending.{send_judged_to}
+use Rattle.vcpu_machine.specs.Sending.{clear_pads, own_source, send_judged_to}
 use Rattle.vcpu_machine.proofs.LeadLaws.{leads_passed, reads_lead}
 use Rattle.vcpu_machine.proofs.SendLaws.{judged_to, address_is}
 use Rattle.vcpu_machine.proofs.send.head.Goals as goal
 
 pub returns : goal.returns
 returns c =
-    let addr = c.as_slice-addr.result.now in
+    let addr = c.as_slice.result.now in
+    let s = c.send_addr-addr.result in
+    let decoded = c.send_addr-addr.ensures in
     let count = c.args.count in
-    let a : Address = record { port = c.read_u32.result; to = c.read_u16.result; to_port = c.read_u32-2.result; kind = c.args.kind } in
-    let is = address_is c.read_u32.result c.read_u16.result c.read_u32-2.result c.args.kind addr c.read_u32.ensures c.read_u16.ensures c.read_u32-2.ensures in
-    let fits : is_send_addr addr ≡ true = cc in
-    let own : is_own_source c.args.caller addr ≡ true = cc in
+    let a : Address = record { port = s.src.aport; to = s.dst.domain_id; to_port = s.dst.aport; kind = c.args.kind } in
+    let is = address_is s.src.aport s.dst.domain_id s.dst.aport c.args.kind addr
+    (ap (λ (x : SendAddr). x.src.aport) decoded) (ap (λ (x : SendAddr). x.dst.domain_id) decoded) (ap (λ (x : SendAddr). x.dst.aport) decoded) in
+    let clear : clear_pads s ≡ true = cc in
+    let fits : is_send_addr addr ≡ true = ap (λ (x : SendAddr). clear_pads x) (sym decoded) ∙ clear in
+    let ours : own_source c.args.caller s ≡ true = cc in
+    let own : is_own_source c.args.caller addr ≡ true = ap (λ (x : SendAddr). own_source c.args.caller x) (sym decoded) ∙ ours in
     let reads = read c.args.iovs (16 * count) (send_iovs count c.args.kind addr) in
     let P : List ℕ → Type 0 = λ bytes. Leads (send_head c.args.caller c.args.iovs count c.args.kind bytes) 4115 (To c.reading.result) in
-    subst P c.as_slice-addr.ensures.value
+    subst P c.as_slice.ensures.value
     (leads_passed (not (is_send_addr addr)) Inval (refuse_if (not (is_own_source c.args.caller addr)) Perm reads) 4115 (To c.reading.result) (ap not fits)
     (leads_passed (not (is_own_source c.args.caller addr)) Perm reads 4115 (To c.reading.result) (ap not own)
     (reads_lead (pieces_left c.over-rest.result) c.args.iovs (16 * count) (Send (Iovs count a)) c.reading.result (refusal Fault) (send_iovs count c.args.kind addr) 4115

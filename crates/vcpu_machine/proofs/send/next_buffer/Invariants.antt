@@ -3,4 +3,4 @@ use Rattle.vcpu_machine.proofs.send.next_buffer.Given as goal
 
 -- the buffers before this place have no bytes
 abbrev pub invariant-loop-i : goal.invariant-loop-i
-invariant-loop-i l = SkipsTo l.list l.count l.from l.i
+invariant-loop-i l = SkipsTo l.iovs l.from l.i

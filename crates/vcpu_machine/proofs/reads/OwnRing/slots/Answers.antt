@@ -9,9 +9,9 @@ returns c =
     let at = c.args.at in
     let n = c.args.n in
     let room = c.args.self.len - at in
-    let begins : c.address-slots.result + 64 + c.from.result ≡ ring + 64 + at = omega arith in
+    let begins : c.address-places.result + 64 + c.from.result ≡ ring + 64 + at = omega arith in
     let size : c.min-first.result ≡ min n room = omega arith in
-    let slots : c.address-slots.result + 64 ≡ ring + 64 = omega arith in
+    let slots : c.address-places.result + 64 ≡ ring + 64 = omega arith in
     let later : n - c.min-first.result ≡ n - room = omega arith in
     slots_lead c.over-rest.result c.over-later.result ring c.args.self.len at n c.args.taking c.reading.result
     (c.over-rest.ensures.pieces ∙ ap (λ a. pieces a c.min-first.result) begins ∙ ap (λ m. pieces (ring + 64 + at) m) size)
