@@ -1,1 +1,4 @@
+pub mod Lending
 pub mod PageLaws
+pub mod RowLaws
+pub mod SwapLaws

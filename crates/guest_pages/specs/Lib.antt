@@ -2,6 +2,8 @@ pub mod Lending
 pub mod LendingRow
 pub mod Numbers
 pub mod PageBytes
-pub mod Rows
+pub mod Pages
+pub mod PrivateInside
 pub mod RowInside
+pub mod Rows
 pub mod Swaps

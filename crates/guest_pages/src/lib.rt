@@ -7,11 +7,9 @@
 mod lend_fault;
 mod page;
 mod page_row;
-
+mod private;
 mod swaps;
-
-
 
 pub use lend_fault::LendFault;
 pub use page_row::PageRow;
-
+pub use private::Private;

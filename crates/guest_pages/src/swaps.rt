@@ -29,7 +29,7 @@ pub(crate) fn is_full(row: &[Lent]) -> bool
     row.iter().all(|e| e.page.is_some())
 }
 
-/// What stands under a place's number and what the place holds change places.
+// What stands under a place's number and what the place holds change places.
 fn swap_place(pages: &mut [Option<Page>], place: &mut Lent)
     ensures pages { pages.new ≡ slice_set pages.old place.old.number place.old.page }
     ensures number { place.new.number ≡ place.old.number }
@@ -40,8 +40,8 @@ fn swap_place(pages: &mut [Option<Page>], place: &mut Lent)
     }
 }
 
-/// Each place of the row in turn changes what it holds for what stands under its number.
-pub(crate) fn swap_in(pages: &mut [Option<Page>], row: &mut [Lent])
+// Each place of the row in turn changes what it holds for what stands under its number.
+fn swap_places(pages: &mut [Option<Page>], row: &mut [Lent])
     ensures pages { pages.new ≡ (swapped_in pages.old row.old).0 }
     ensures row { row.new ≡ (swapped_in pages.old row.old).1 }
 {
@@ -50,8 +50,8 @@ pub(crate) fn swap_in(pages: &mut [Option<Page>], row: &mut [Lent])
     }
 }
 
-/// The same from the row's end to its start, which undoes it.
-pub(crate) fn swap_back(pages: &mut [Option<Page>], row: &mut [Lent])
+// The same from the row's end to its start.
+fn swap_places_back(pages: &mut [Option<Page>], row: &mut [Lent])
     ensures pages { pages.new ≡ (swapped_back pages.old row.old).0 }
     ensures row { row.new ≡ (swapped_back pages.old row.old).1 }
 {
@@ -60,4 +60,20 @@ pub(crate) fn swap_back(pages: &mut [Option<Page>], row: &mut [Lent])
         left -= 1;
         swap_place(pages, &mut row[left]);
     }
+}
+
+/// Each place of the row in turn changes what it holds for what stands under its number.
+pub(crate) fn swap_in(pages: &mut Vec<Option<Page>>, row: &mut Vec<Lent>)
+    ensures pages { pages.new.items ≡ (swapped_in pages.old.items row.old.items).0 }
+    ensures row { row.new.items ≡ (swapped_in pages.old.items row.old.items).1 }
+{
+    swap_places(pages.as_mut_slice(), row.as_mut_slice());
+}
+
+/// The same from the row's end to its start, which undoes it.
+pub(crate) fn swap_back(pages: &mut Vec<Option<Page>>, row: &mut Vec<Lent>)
+    ensures pages { pages.new.items ≡ (swapped_back pages.old.items row.old.items).0 }
+    ensures row { row.new.items ≡ (swapped_back pages.old.items row.old.items).1 }
+{
+    swap_places_back(pages.as_mut_slice(), row.as_mut_slice());
 }
