@@ -1,3 +1,4 @@
+pub mod FlatLaws
 pub mod Lending
 pub mod PageLaws
 pub mod RowLaws

@@ -14,10 +14,7 @@ use Rattle.guest_pages.specs.PrivateInside.{ArePages}
 use Rattle.guest_pages.specs.RowInside.{IsRow}
 use Rattle.guest_pages.specs.Rows.{numbered}
 use Rattle.guest_pages.specs.Swaps.{blanks, swapped_in, swapped_back}
-
--- a place of a row
-abbrev place_of : ℕ → Option (List ℕ) → Lent
-place_of n p = record { number = n; page = p }
+use Rattle.guest_pages.proofs.RowLaws.{place_of}
 
 pub same_place : (e : Lent) (n : ℕ) (p : Option (List ℕ)) → e.number ≡ n → e.page ≡ p → e ≡ place_of n p
 same_place e n p a b = ap (λ x. place_of x e.page) a ∙ ap (λ x. place_of n x) b

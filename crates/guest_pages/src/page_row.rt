@@ -62,4 +62,23 @@ impl PageRow {
     {
         self.places[place].page_mut().bytes_mut()
     }
+
+    /// Copies bytes of the page at a place from an offset on, as many as the buffer takes.
+    pub fn read(&self, place: usize, off: u32, buf: &mut [u8])
+        requires inside { place < length self.now }
+        requires in_page { off + length buf.old ≤ 4096 }
+        ensures { buf.new ≡ take (length buf.old) (drop (4096 * place + off) (row_bytes self.now)) }
+    {
+        self.places[place].page().read(off, buf);
+    }
+
+    /// Writes bytes into the page at a place from an offset on.
+    pub fn write(&mut self, place: usize, off: u32, bytes: &[u8])
+        requires inside { place < length self.old }
+        requires in_page { off + length bytes.now ≤ 4096 }
+        ensures numbers { numbers_of self.new ≡ numbers_of self.old }
+        ensures bytes { row_bytes self.new ≡ splice (row_bytes self.old) (4096 * place + off) bytes.now }
+    {
+        self.places[place].page_mut().write(off, bytes);
+    }
 }

@@ -1,8 +1,7 @@
-use Rattle.std.proofs.Common.{sym, subst, ap, ◌∙◌, ◌≡◌, length}
-use Rattle.std.specs.List.{All}
+use Rattle.std.proofs.Common.{sym, ap, ◌∙◌}
 use Rattle.guest_pages.specs.Numbers.{all_differ}
 use Rattle.guest_pages.specs.Rows.{numbers_of}
-use Rattle.guest_pages.proofs.RowLaws.{numbers_of-numbered, pages_whole}
+use Rattle.guest_pages.proofs.RowLaws.{numbers_of-numbered, row_whole}
 use Rattle.guest_pages.proofs.page_row.PageRow.count.Goals as goal
 
 pub returns-clause-differ : goal.returns-clause-differ
@@ -12,5 +11,4 @@ returns-clause-differ c =
     ∙ c.self.invariant.differ
 
 pub returns-clause-whole : goal.returns-clause-whole
-returns-clause-whole c =
-    subst (λ row. All (λ p. length p.1 ≡ 4096) row) c.self.view_is (pages_whole c.self.inside.places.items c.self.invariant.whole)
+returns-clause-whole c = row_whole c.self.inside.places.items c.args.self.now c.self.invariant c.self.view_is
