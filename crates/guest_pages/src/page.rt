@@ -1,6 +1,7 @@
 //! One page, and a place of a row that may hold one.
 ghost use Rattle.std.specs.Prelude.{◌≡◌, ◌+◌, ◌≤◌, length, take, drop, IfOk, IsSome, Some};
 ghost use Rattle.std.specs.Borrow.{sem};
+ghost use Rattle.argo_base.specs.Limits.{page_bytes};
 ghost use Rattle.argo_base.specs.Splice.{splice};
 ghost use Rattle.guest_pages.specs.Lending.{LendsBytes, LendsPage};
 ghost use Rattle.guest_pages.specs.PageBytes.{zero_page};
@@ -36,7 +37,7 @@ impl Page {
 
     pub(crate) fn bytes(&self) -> &[u8; 4096]
         ensures value { result.now ≡ self.now }
-        ensures whole { length self.now ≡ 4096 }
+        ensures whole { length self.now ≡ page_bytes }
     {
         let page: &[u8; 4096] = &self.bytes;
         let is_whole = page[..].len() == 4096;
@@ -47,7 +48,7 @@ impl Page {
     pub(crate) fn bytes_mut(&mut self) -> &mut [u8; 4096]
         ensures* writes_back { sem 𝓛 (LendsBytes self.entry result) }
         ensures value { result.now ≡ self.old }
-        ensures whole { length self.old ≡ 4096 }
+        ensures whole { length self.old ≡ page_bytes }
     {
         let page: &[u8; 4096] = &self.bytes;
         let is_whole = page[..].len() == 4096;
@@ -57,7 +58,7 @@ impl Page {
 
     /// Copies bytes of the page from an offset on, as many as the buffer takes.
     pub(crate) fn read(&self, off: u32, buf: &mut [u8])
-        requires { off + length buf.old ≤ 4096 }
+        requires { off + length buf.old ≤ page_bytes }
         ensures { buf.new ≡ take (length buf.old) (drop off self.now) }
     {
         let (_, rest) = self.bytes().split_at(off as usize);
@@ -67,7 +68,7 @@ impl Page {
 
     /// Writes bytes into the page from an offset on.
     pub(crate) fn write(&mut self, off: u32, bytes: &[u8])
-        requires { off + length bytes.now ≤ 4096 }
+        requires { off + length bytes.now ≤ page_bytes }
         ensures { self.new ≡ splice self.old off bytes.now }
     {
         let (_, rest) = self.bytes_mut().split_at_mut(off as usize);

@@ -2,6 +2,7 @@
 ghost use Rattle.std.specs.Prelude.{◌≡◌, ◌+◌, ◌*◌, ◌<◌, ◌≤◌, length, take, drop, slice_index, IsTrue};
 ghost use Rattle.std.specs.List.{All};
 ghost use Rattle.std.specs.Borrow.{sem};
+ghost use Rattle.argo_base.specs.Limits.{page_bytes};
 ghost use Rattle.argo_base.specs.Splice.{splice};
 ghost use Rattle.guest_pages.specs.LendingRow.{LendsPageAt};
 ghost use Rattle.guest_pages.specs.Numbers.{all_differ};
@@ -32,7 +33,7 @@ impl PageRow {
     pub fn count(&self) -> usize
         ensures count { result ≡ length self.now }
         ensures differ { IsTrue (all_differ (numbers_of self.now)) }
-        ensures whole { All (λ p. length p.1 ≡ 4096) self.now }
+        ensures whole { All (λ p. length p.1 ≡ page_bytes) self.now }
     {
         self.places.len()
     }
@@ -49,7 +50,7 @@ impl PageRow {
     pub fn page(&self, place: usize) -> &[u8; 4096]
         requires { place < length self.now }
         ensures value { result.now ≡ (page_in self.now place).1 }
-        ensures whole { length result.now ≡ 4096 }
+        ensures whole { length result.now ≡ page_bytes }
     {
         self.places[place].page().bytes()
     }
@@ -66,8 +67,9 @@ impl PageRow {
     /// Copies bytes of the page at a place from an offset on, as many as the buffer takes.
     pub fn read(&self, place: usize, off: u32, buf: &mut [u8])
         requires inside { place < length self.now }
-        requires in_page { off + length buf.old ≤ 4096 }
-        ensures { buf.new ≡ take (length buf.old) (drop (4096 * place + off) (row_bytes self.now)) }
+        requires in_page { off + length buf.old ≤ page_bytes }
+        ensures bytes { buf.new ≡ take (length buf.old) (drop (page_bytes * place + off) (row_bytes self.now)) }
+        ensures whole { length (row_bytes self.now) ≡ page_bytes * length self.now }
     {
         self.places[place].page().read(off, buf);
     }
@@ -75,9 +77,10 @@ impl PageRow {
     /// Writes bytes into the page at a place from an offset on.
     pub fn write(&mut self, place: usize, off: u32, bytes: &[u8])
         requires inside { place < length self.old }
-        requires in_page { off + length bytes.now ≤ 4096 }
+        requires in_page { off + length bytes.now ≤ page_bytes }
         ensures numbers { numbers_of self.new ≡ numbers_of self.old }
-        ensures bytes { row_bytes self.new ≡ splice (row_bytes self.old) (4096 * place + off) bytes.now }
+        ensures bytes { row_bytes self.new ≡ splice (row_bytes self.old) (page_bytes * place + off) bytes.now }
+        ensures whole { length (row_bytes self.old) ≡ page_bytes * length self.old }
     {
         self.places[place].page_mut().write(off, bytes);
     }

@@ -1,6 +1,7 @@
 //! The pages of a domain that stand in no ring.
 ghost use Rattle.std.specs.Prelude.{◌≡◌, ◌+◌, ◌≤◌, length, take, drop, replicate, IsTrue, IsFalse, is_some, option_map, Some, Err, IfOk, OnOk, IfErr, OnErr};
 ghost use Rattle.std.specs.List.{All};
+ghost use Rattle.argo_base.specs.Limits.{page_bytes};
 ghost use Rattle.guest_pages.specs.PageBytes.{zero_page, IsWhole};
 ghost use Rattle.guest_pages.specs.Pages.{page_at, with_written, can_lend, row_of, without, with_row};
 
@@ -50,7 +51,7 @@ impl Private {
 
     /// A copy of `n` bytes of a page from an offset on, or none where the page is absent or lent.
     pub fn read(&self, page: u64, off: u32, n: u32) -> Result<Option<Bytes>, NoMemory>
-        requires { off + n ≤ 4096 }
+        requires { off + n ≤ page_bytes }
         ensures { IfOk result (λ r. r ≡ option_map (λ p. take n (drop off p)) (page_at self.now page)) }
     {
         let Some(Some(page)) = self.slots.get(page as usize) else {
@@ -63,7 +64,7 @@ impl Private {
 
     /// Writes into a page from an offset on; false where the page is absent or lent. It takes no memory.
     pub fn write(&mut self, page: u64, off: u32, bytes: &[u8]) -> bool
-        requires { off + length bytes.now ≤ 4096 }
+        requires { off + length bytes.now ≤ page_bytes }
         ensures found { result ≡ is_some (page_at self.old page) }
         ensures written { self.new ≡ with_written self.old page off bytes.now }
     {

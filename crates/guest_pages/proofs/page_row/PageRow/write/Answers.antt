@@ -3,7 +3,7 @@ use Rattle.std.specs.Prelude.{unwrap_or}
 use Rattle.argo_base.specs.Splice.{splice}
 use Rattle.argo_base.proofs.SpliceLaws.{length-splice}
 use Rattle.guest_pages.specs.Rows.{numbers_of, row_bytes, page_in, with_bytes}
-use Rattle.guest_pages.proofs.FlatLaws.{numbers_of-with_bytes, row_bytes-with_bytes}
+use Rattle.guest_pages.proofs.FlatLaws.{length-row_bytes, numbers_of-with_bytes, row_bytes-with_bytes}
 use Rattle.guest_pages.proofs.RowLaws.{page_in-numbered, row_whole, row_with_bytes, with_bytes-numbered}
 use Rattle.guest_pages.proofs.page_row.PageRow.write.Goals as goal
 
@@ -40,3 +40,7 @@ returns-clause-bytes c =
     c.index_mut.ensures.value)
     ∙ ap (λ b. row_bytes (with_bytes c.args.self.now c.args.place b)) (c.write.ensures ∙ ap (λ p. splice p c.args.off c.args.bytes.now) (was c))
     ∙ row_bytes-with_bytes c.args.self.now c.args.place c.args.off c.args.bytes.now whole c.requires.inside c.requires.in_page
+
+pub returns-clause-whole : goal.returns-clause-whole
+returns-clause-whole c =
+    length-row_bytes c.args.self.now (row_whole c.self.inside.places.items c.args.self.now c.self.invariant c.self.view_is)
