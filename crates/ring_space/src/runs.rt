@@ -1,5 +1,5 @@
 //! Copies between bytes and the slots of a ring, by whole runs of its pages.
-ghost use Rattle.std.specs.Prelude.{◌≡◌, ◌+◌, ◌*◌, ◌^◌, ◌<◌, ◌≤◌, length, take, drop, IsTrue};
+ghost use Rattle.std.specs.Prelude.{◌≡◌, ◌+◌, ◌*◌, ◌%◌, ◌^◌, ◌<◌, ◌≤◌, length, take, drop, IsTrue};
 ghost use Rattle.argo_base.specs.Limits.{page_bytes};
 ghost use Rattle.argo_base.specs.Rounds.{written_round};
 ghost use Rattle.argo_base.specs.Slots.{is_legal, is_place, page_count};
@@ -8,6 +8,7 @@ ghost use Rattle.guest_pages.specs.Rows.{row_bytes, numbers_of};
 ghost use Rattle.ring_space.specs.RingSlots.{slots, bytes_from, write_slots};
 
 use argo_base::PAGE_BYTES;
+use argo_base::slots::page_count;
 use guest_pages::PageRow;
 
 const PAGE: usize = PAGE_BYTES as usize;
@@ -72,6 +73,8 @@ pub fn write_run(row: &mut PageRow, len: u32, at: u32, bytes: &[u8])
     ensures bytes { row_bytes row.new ≡ write_slots len at bytes.now (row_bytes row.old) }
     ensures slots { slots len (row_bytes row.new) ≡ written_round len (slots len (row_bytes row.old)) at bytes.now }
 {
+    let has_pages = row.count() == page_count(len) as usize;
+    prove!(has_pages);
     let to_end = bytes.len().min((len - at) as usize);
     let (first, rest) = bytes.split_at(to_end);
     write_bytes(row, HEADER + at, first);
@@ -87,6 +90,8 @@ pub fn read_run(row: &PageRow, len: u32, at: u32, buf: &mut [u8])
     requires short { length buf.old ≤ len }
     ensures { buf.new ≡ take (length buf.old) (bytes_from at (slots len (row_bytes row.now))) }
 {
+    let has_pages = row.count() == page_count(len) as usize;
+    prove!(has_pages);
     let to_end = buf.len().min((len - at) as usize);
     let (first, rest) = buf.split_at_mut(to_end);
     read_bytes(row, HEADER + at, first);
