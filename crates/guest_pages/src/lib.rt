@@ -9,6 +9,8 @@ mod page;
 mod page_row;
 mod private;
 mod swaps;
+#[cfg(test)]
+mod tests;
 
 pub use lend_fault::LendFault;
 pub use page_row::PageRow;

@@ -6,6 +6,8 @@
 
 mod runs;
 mod words;
+#[cfg(test)]
+mod tests;
 
 pub use argo_base::slots::{advance, fits, page_count, sanitise, span, too_big, up};
 pub use runs::{read_run, write_run};
