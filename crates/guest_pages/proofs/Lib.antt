@@ -1,0 +1,5 @@
+pub mod FlatLaws
+pub mod Lending
+pub mod PageLaws
+pub mod RowLaws
+pub mod SwapLaws

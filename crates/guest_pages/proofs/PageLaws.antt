@@ -1,0 +1,19 @@
+-- Laws of the bytes of a page.
+use Rattle.std.proofs.Common.{◌≡◌, ℕ, ◌+◌, ◌-◌, List, ◌++◌, length, replicate, take, refl, sym, ap, ◌∙◌, arith, length-append, length-take}
+use Rattle.std.proofs.Math.Seq.{take-append_seam}
+use Rattle.std.proofs.lemmas.List.{length-replicate, length-take-le}
+use Rattle.guest_pages.specs.PageBytes.{zero_page, page_of}
+
+pub length-zero_page : length zero_page ≡ 4096
+unfolding zero_page
+length-zero_page = length-replicate {A = ℕ} 4096 0
+
+-- a page has 4,096 bytes
+pub length-page_of : (xs : List ℕ) → length (page_of xs) ≡ 4096
+unfolding page_of
+length-page_of xs = length-take-le 4096 (xs ++ zero_page) (omega (arith, length-append xs zero_page, length-zero_page))
+
+-- where there are 4,096 bytes, they are the page
+pub page_of-whole : (xs : List ℕ) → length xs ≡ 4096 → page_of xs ≡ xs
+unfolding page_of
+page_of-whole xs whole = ap (λ n. take n (xs ++ zero_page)) (sym whole) ∙ take-append_seam xs zero_page

@@ -1,0 +1,15 @@
+use Rattle.std.proofs.Common.{◌≡◌, ℕ, List, ◌∙◌, ap, sym, subst, arith, length, replicate, Some}
+use Rattle.std.proofs.lemmas.List.{length-replicate}
+use Rattle.std.proofs.lemmas.List.Elements.{All-replicate}
+use Rattle.guest_pages.specs.PageBytes.{zero_page, IsWhole}
+use Rattle.guest_pages.specs.PrivateInside.{ArePages}
+use Rattle.guest_pages.proofs.PageLaws.{length-zero_page}
+use Rattle.guest_pages.proofs.private.Private.new.Goals as goal
+
+pub invariant_of-result : goal.invariant_of-result
+invariant_of-result c =
+    let pages : ArePages (replicate c.loop.counter (Some zero_page)) = record {
+      few = omega (arith, length-replicate c.loop.counter (Some zero_page));
+      whole = All-replicate IsWhole c.loop.counter (Some zero_page) length-zero_page;
+    } in
+    subst ArePages (sym c.loop.invariant) pages

@@ -1,0 +1,9 @@
+pub mod Lending
+pub mod LendingRow
+pub mod Numbers
+pub mod PageBytes
+pub mod Pages
+pub mod PrivateInside
+pub mod RowInside
+pub mod Rows
+pub mod Swaps

@@ -1,0 +1,108 @@
+//! One page, and a place of a row that may hold one.
+ghost use Rattle.std.specs.Prelude.{◌≡◌, ◌+◌, ◌≤◌, length, take, drop, IfOk, IsSome, Some};
+ghost use Rattle.std.specs.Borrow.{sem};
+ghost use Rattle.argo_base.specs.Limits.{page_bytes};
+ghost use Rattle.argo_base.specs.Splice.{splice};
+ghost use Rattle.guest_pages.specs.Lending.{LendsBytes, LendsPage};
+ghost use Rattle.guest_pages.specs.PageBytes.{zero_page};
+
+use argo_base::NoMemory;
+use std::alloc::Global;
+use std::marker::Model;
+
+/// The 4,096 bytes of a page, which stay where they are when the page is moved.
+#[derive(Debug, Drop)]
+pub(crate) struct Page {
+    bytes: Box<[u8; 4096]>,
+}
+
+impl Model for Page {
+    ghost use Rattle.std.specs.Prelude.{ℕ, List};
+    ghost use Rattle.guest_pages.specs.PageBytes.{page_of};
+
+    ghost Value = { List ℕ };
+
+    ghost view = { λ p. page_of p.bytes.value };
+}
+
+impl Page {
+    /// A page of zeros.
+    pub(crate) fn new(alloc: Global) -> Result<Self, NoMemory>
+        ensures { IfOk result (λ p. p ≡ zero_page) }
+    {
+        Ok(Page {
+            bytes: Box::new(alloc, [0; 4096])?,
+        })
+    }
+
+    pub(crate) fn bytes(&self) -> &[u8; 4096]
+        ensures value { result.now ≡ self.now }
+        ensures whole { length self.now ≡ page_bytes }
+    {
+        let page: &[u8; 4096] = &self.bytes;
+        let is_whole = page[..].len() == 4096;
+        prove!(is_whole);
+        page
+    }
+
+    pub(crate) fn bytes_mut(&mut self) -> &mut [u8; 4096]
+        ensures* writes_back { sem 𝓛 (LendsBytes self.entry result) }
+        ensures value { result.now ≡ self.old }
+        ensures whole { length self.old ≡ page_bytes }
+    {
+        let page: &[u8; 4096] = &self.bytes;
+        let is_whole = page[..].len() == 4096;
+        prove!(is_whole);
+        &mut self.bytes
+    }
+
+    /// Copies bytes of the page from an offset on, as many as the buffer takes.
+    pub(crate) fn read(&self, off: u32, buf: &mut [u8])
+        requires { off + length buf.old ≤ page_bytes }
+        ensures { buf.new ≡ take (length buf.old) (drop off self.now) }
+    {
+        let (_, rest) = self.bytes().split_at(off as usize);
+        let (part, _) = rest.split_at(buf.len());
+        buf.copy_from_slice(part);
+    }
+
+    /// Writes bytes into the page from an offset on.
+    pub(crate) fn write(&mut self, off: u32, bytes: &[u8])
+        requires { off + length bytes.now ≤ page_bytes }
+        ensures { self.new ≡ splice self.old off bytes.now }
+    {
+        let (_, rest) = self.bytes_mut().split_at_mut(off as usize);
+        let (part, _) = rest.split_at_mut(bytes.len());
+        part.copy_from_slice(bytes);
+    }
+}
+
+/// A place of a row: the number of a page, and the page where it stands there.
+#[derive(Debug, Drop)]
+pub(crate) struct Lent {
+    pub(crate) number: u64,
+    pub(crate) page: Option<Page>,
+}
+
+impl Lent {
+    pub(crate) fn page(&self) -> &Page
+        requires { IsSome self.now.page }
+        ensures { self.now.page ≡ Some result.now }
+    {
+        match &self.page {
+            Some(page) => page,
+            None => unreachable!(),
+        }
+    }
+
+    pub(crate) fn page_mut(&mut self) -> &mut Page
+        requires { IsSome self.old.page }
+        ensures* writes_back { sem 𝓛 (LendsPage self.entry result) }
+        ensures value { self.old.page ≡ Some result.now }
+    {
+        match &mut self.page {
+            Some(page) => page,
+            None => unreachable!(),
+        }
+    }
+}

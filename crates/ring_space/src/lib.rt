@@ -1,0 +1,14 @@
+//! A ring on its pages: the arithmetic of its slot bytes, copies that go round its end, and its two words.
+//!
+//! The layer above uses `write_run` and `read_run`, which contracts tell on the bytes of the ring as one list. It stands on
+//! argo_base, whose arithmetic it gives out again, and on guest_pages.
+#![tactic(auto)]
+
+mod runs;
+mod words;
+#[cfg(test)]
+mod tests;
+
+pub use argo_base::slots::{advance, fits, page_count, sanitise, span, too_big, up};
+pub use runs::{read_run, write_run};
+pub use words::{rx_word, tx_word, write_tx};
