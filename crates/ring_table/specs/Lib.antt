@@ -1,0 +1,4 @@
+pub mod Buckets
+pub mod Edits
+pub mod Lends
+pub mod Rows
