@@ -7,7 +7,7 @@ use Rattle.std.specs.declared.cmp.Ordering.TheVariants.{Less, Equal, Greater}
 use Rattle.std.specs.Cmp.{IsTotalOrder, then_total, on_total, nat_cmp_total, tied_itself, eq_by_cmp_equiv}
 use Rattle.std.specs.List.Sorted.{IsStrictlySortedBy}
 use Rattle.std.specs.Map.{keys_of, lookup, remove_entry, set_value}
-use Rattle.std.specs.BTreeMap.{BTreeMap, is_at, insert_entry}
+use Rattle.std.specs.BTreeMap.{BTreeMap, is_at, insert_entry, IsOrdered}
 use Rattle.std.proofs.lemmas.Bool.{cases_Bool, cases_lt, cases_eq}
 use Rattle.std.proofs.lemmas.List.{length-set, get_or-set_same, get_or-set_other}
 use Rattle.std.proofs.lemmas.Map.{keys-set_value, length-set_value, lookup-set_value, lookup-remove_entry}
@@ -79,7 +79,7 @@ module _ {X : Type 0} where
 from_zero : (n : ℕ) → 0 + n ≡ n
 from_zero n = omega arith
 
-abbrev Bucket : Type 0 → Type 0
+abbrev pub Bucket : Type 0 → Type 0
 Bucket T = BTreeMap RingKey (Row T)
 
 module _ {T : Type 0} where
@@ -89,7 +89,7 @@ module _ {T : Type 0} where
 
   -- a bucket has nothing of the keys of others
   bucket_without : (i : ℕ) (b : Bucket T) → IsBucket i b → (q : RingKey) → (bucket_of q ≡ i → ⊥) → find b.entries q ≡ None
-  bucket_without i b is q other = none_if_not (find b.entries q) (λ row h. other (is q row h).0)
+  bucket_without i b is q other = none_if_not (find b.entries q) (λ row h. other (is.own q row h).0)
 
   -- nothing stands outside the bucket of its key
   find-without : (i : ℕ) (bs : List (Bucket T)) → AreBuckets i bs → (q : RingKey) → (bucket_of q < i) ⊎ (i + length bs ≤ bucket_of q) → find (gathered bs) q ≡ None
@@ -159,7 +159,7 @@ module _ {T : Type 0} where
   pub found : (bs : List (Bucket T)) → AreBuckets 0 bs → (q : RingKey) (j : ℕ) (d : Bucket T) → j ≡ bucket_of q → j < length bs
       → find (slice_index_or bs j d).entries q ≡ option_map row_of (at_key (rows_in bs) q)
   found bs are q j d e within =
-      row_back _ q (λ row h. (bucket_of_all bs are j d within q row h).1)
+      row_back _ q (λ row h. ((bucket_of_all bs are j d within).own q row h).1)
       ∙ ap (λ x. option_map row_of (option_map (λ h. (q, h)) (option_map held_of x))) (sym (find-bucket bs are q j d (sym e) within))
       ∙ ap (λ x. option_map row_of (option_map (λ h. (q, h)) x)) (sym (find-rows bs q))
 
@@ -176,13 +176,13 @@ module _ {T : Type 0} where
 
 module _ {T : Type 0} (bs : List (Bucket T)) (are : AreBuckets 0 bs) (key : RingKey) (j : ℕ) (at_key : j ≡ bucket_of key) (within : j < length bs)
     (d b : Bucket T) (w : Option (Row T)) (updates : (q : RingKey) → find b.entries q ≡ cond (is_at (key_cmp key) q) w (find (slice_index_or bs j d).entries q))
-    (own : (row : Row T) → w ≡ Some row → row.key ≡ key) where
+    (own : (row : Row T) → w ≡ Some row → row.key ≡ key) (ordered : IsOrdered key_cmp b) where
   edited_at : (q : RingKey) (row : Row T) (c : Bool) → is_at (key_cmp key) q ≡ c → cond c w (find (slice_index_or bs j d).entries q) ≡ Some row → (bucket_of q ≡ j) × (row.key ≡ q)
   edited_at q row true h e = let k = key_is key q h in (sym (at_key ∙ ap bucket_of k), own row e ∙ k)
-  edited_at q row false h e = bucket_of_all bs are j d within q row e
+  edited_at q row false h e = (bucket_of_all bs are j d within).own q row e
 
   edited_bucket : IsBucket j b
-  edited_bucket q row e = edited_at q row (is_at (key_cmp key) q) refl (sym (updates q) ∙ e)
+  edited_bucket = record { ordered = ordered; own = λ q row e. edited_at q row (is_at (key_cmp key) q) refl (sym (updates q) ∙ e) }
 
   pub edited_buckets : AreBuckets 0 (slice_set bs j b)
   edited_buckets = AreBuckets-set 0 bs are j b (subst (λ n. IsBucket n b) (sym (from_zero j)) edited_bucket)
@@ -280,20 +280,21 @@ lends_as {n = n} same = λ k. inl (n, λ w. same w k)
 
 module _ {T : Type 0} (bs : List (Bucket T)) (are : AreBuckets 0 bs) (key : RingKey) (j : ℕ) (at_key : j ≡ bucket_of key) (within : j < length bs)
     (d : Bucket T) (old : Row T) (there : find (slice_index_or bs j d).entries key ≡ Some old) (lender : Row T → Bucket T)
-    (holds : (row : Row T) (q : RingKey) → find (lender row).entries q ≡ cond (is_at (key_cmp key) q) (Some row) (find (slice_index_or bs j d).entries q)) where
+    (holds : (row : Row T) (q : RingKey) → find (lender row).entries q ≡ cond (is_at (key_cmp key) q) (Some row) (find (slice_index_or bs j d).entries q))
+    (ordered : (row : Row T) → IsOrdered key_cmp (lender row)) where
   abbrev row_with : T → Row T
   row_with v = record old { value = v }
 
   own_row : (v : T) (row : Row T) → Some (row_with v) ≡ Some row → row.key ≡ key
-  own_row v row e = ap (λ x. (unwrap_or x old).key) (sym e) ∙ (bucket_of_all bs are j d within key old there).1
+  own_row v row e = ap (λ x. (unwrap_or x old).key) (sym e) ∙ ((bucket_of_all bs are j d within).own key old there).1
 
   stands : find (rows_in bs) key ≡ Some (held_of old)
   stands = held_in bs are key j d at_key within ∙ ap (option_map held_of) there
 
   pub lent_rows : (v : T) → rows_in (slice_set bs j (lender (row_with v))) ≡ with_value (rows_in bs) key v
-  lent_rows v = written_value bs are key j at_key within d (lender (row_with v)) (Some (row_with v)) (holds (row_with v)) (own_row v) old v stands refl
+  lent_rows v = written_value bs are key j at_key within d (lender (row_with v)) (Some (row_with v)) (holds (row_with v)) (own_row v) (ordered (row_with v)) old v stands refl
 
   pub lent_table : (n : ℕ) → IsTable bs n → (v : T) → IsTable (slice_set bs j (lender (row_with v))) n
   lent_table n t v =
-      table_after bs are key j at_key within d (lender (row_with v)) (Some (row_with v)) (holds (row_with v)) (own_row v) n n t
+      table_after bs are key j at_key within d (lender (row_with v)) (Some (row_with v)) (holds (row_with v)) (own_row v) (ordered (row_with v)) n n t
       (t.counted ∙ sym (ap length (lent_rows v) ∙ length-set_value (is_at (key_cmp key)) (rows_in bs) _)) t.most

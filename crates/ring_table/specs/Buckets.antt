@@ -1,7 +1,7 @@
 -- How the rows lie in buckets.
 use Rattle.std.specs.Prelude.{◌≡◌, ℕ, ◌+◌, ◌%◌, ◌≤◌, List, [], ◌∷◌, length, map, Some, ◌⊎◌}
 use Rattle.std.specs.Map.{lookup}
-use Rattle.std.specs.BTreeMap.{BTreeMap, is_at, insert_entry}
+use Rattle.std.specs.BTreeMap.{BTreeMap, is_at, insert_entry, IsOrdered}
 use Rattle.argo_base.specs.declared.ring_key.RingKey.{RingKey}
 use Rattle.argo_base.specs.Match.{key_cmp}
 use Rattle.ring_table.specs.declared.row.Row.{Row}
@@ -27,9 +27,10 @@ module _ {T : Type 0} where
   abbrev pub rows_in : List (BTreeMap RingKey (Row T)) → List (RingKey × Held T)
   rows_in bs = map (λ e. (e.0, held_of e.1)) (gathered bs)
 
-  -- a bucket has keys of its own alone, and each row stands under its key
-  abbrev pub IsBucket : ℕ → BTreeMap RingKey (Row T) → Type 0
-  IsBucket i b = (q : RingKey) (row : Row T) → lookup (is_at (key_cmp q)) b.entries ≡ Some row → (bucket_of q ≡ i) × (row.key ≡ q)
+  -- a bucket has keys of its own alone, by rising key, and each row stands under its key
+  pub record IsBucket (i : ℕ) (b : BTreeMap RingKey (Row T)) : Type 0 where
+    pub ordered : IsOrdered key_cmp b
+    pub own : (q : RingKey) (row : Row T) → lookup (is_at (key_cmp q)) b.entries ≡ Some row → (bucket_of q ≡ i) × (row.key ≡ q)
 
   -- buckets from the i-th on
   abbrev pub AreBuckets : ℕ → List (BTreeMap RingKey (Row T)) → Type 0
@@ -42,3 +43,13 @@ module _ {T : Type 0} where
     pub buckets : AreBuckets 0 bs
     pub counted : count ≡ length (rows_in bs)
     pub most : count ≤ most_rows
+
+-- buckets with nothing in them
+abbrev pub AreEmpty : {X : Type 0} → List (BTreeMap RingKey X) → Type 0
+AreEmpty [] = Unit {0}
+AreEmpty (b ∷ bs) = (b.entries ≡ []) × AreEmpty bs
+
+-- all the buckets: the old ones, or new ones in the place of none
+pub record Made {X : Type 0} (old new : List (BTreeMap RingKey X)) : Type 0 where
+  pub whole : length new ≡ 32
+  pub same : (new ≡ old) ⊎ ((length old ≡ 0) × AreEmpty new)

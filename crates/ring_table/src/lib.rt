@@ -6,8 +6,10 @@
 
 mod fault;
 mod row;
+mod steps;
 mod table;
 
 pub use fault::InsertFault;
 pub use row::Row;
+pub use steps::Steps;
 pub use table::{MOST_ROWS, Table};

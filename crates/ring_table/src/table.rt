@@ -5,7 +5,9 @@ ghost use Rattle.argo_base.specs.Match.{key_cmp, match_of, at_key};
 ghost use Rattle.ring_table.specs.Rows.{row_of};
 ghost use Rattle.ring_table.specs.Buckets as buckets;
 
+mod counted;
 mod edits;
+mod scan;
 
 use crate::Row;
 use argo_base::{DomId, RingKey};

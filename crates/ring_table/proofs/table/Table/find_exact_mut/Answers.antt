@@ -35,7 +35,7 @@ invariant_of-self-lent g c w =
     lent_table bs c.self.invariant.buckets c.args.key i c.bucket_of.ensures.which is.0 d c.in-Some-get_mut.row.now
     (ap (λ b. find b.entries c.args.key) (sym (is.1 d)) ∙ sym there) c.get_mut-2.follows.lender
     (λ row q. ((c.get_mut-2.follows.holds row).3 (sym (ap is_some there))).0 q ∙ ap (λ b. cond (is_at (key_cmp c.args.key) q) (Some row) (find b.entries q)) (is.1 d))
-    c.self.inside.count c.self.invariant w
+    (λ row. (c.get_mut-2.follows.holds row).4) c.self.inside.count c.self.invariant w
 
 pub returns : goal.returns
 returns g c =
@@ -46,7 +46,8 @@ returns g c =
     let there = c.in-Some-get_mut.ensures.value in
     let rows = lent_rows bs c.self.invariant.buckets c.args.key i c.bucket_of.ensures.which is.0 d c.in-Some-get_mut.row.now
     (ap (λ b. find b.entries c.args.key) (sym (is.1 d)) ∙ sym there) c.get_mut-2.follows.lender
-    (λ row q. ((c.get_mut-2.follows.holds row).3 (sym (ap is_some there))).0 q ∙ ap (λ b. cond (is_at (key_cmp c.args.key) q) (Some row) (find b.entries q)) (is.1 d)) in
+    (λ row q. ((c.get_mut-2.follows.holds row).3 (sym (ap is_some there))).0 q ∙ ap (λ b. cond (is_at (key_cmp c.args.key) q) (Some row) (find b.entries q)) (is.1 d))
+    (λ row. (c.get_mut-2.follows.holds row).4) in
     (lends_as (λ w. rows w ∙ ap (λ all. with_value all c.args.key w) c.self.view_is), record {
       writes_back = tt;
       value = sym (ap (λ all. option_map (λ h. h.value) (held_at all c.args.key)) (sym c.self.view_is)
