@@ -60,7 +60,7 @@ module _ {X : Type 0} where
   put_at false true v x y e = absurd (true≢false (sym e))
   put_at false false v x y e = refl
 
-  find-put_all : (es into : List (RingKey × X)) (q : RingKey) → find (put_all es into) q ≡ option_or (find es q) (find into q)
+  pub find-put_all : (es into : List (RingKey × X)) (q : RingKey) → find (put_all es into) q ≡ option_or (find es q) (find into q)
   find-put_all [] into q = refl
   find-put_all (e ∷ es) into q =
       find-insert key_total e.0 e.1 (put_all es into) q
@@ -88,11 +88,11 @@ module _ {T : Type 0} where
   none_if_not (Some row) h = absurd (h row refl)
 
   -- a bucket has nothing of the keys of others
-  bucket_without : (i : ℕ) (b : Bucket T) → IsBucket i b → (q : RingKey) → (bucket_of q ≡ i → ⊥) → find b.entries q ≡ None
+  pub bucket_without : (i : ℕ) (b : Bucket T) → IsBucket i b → (q : RingKey) → (bucket_of q ≡ i → ⊥) → find b.entries q ≡ None
   bucket_without i b is q other = none_if_not (find b.entries q) (λ row h. other (is.own q row h).0)
 
   -- nothing stands outside the bucket of its key
-  find-without : (i : ℕ) (bs : List (Bucket T)) → AreBuckets i bs → (q : RingKey) → (bucket_of q < i) ⊎ (i + length bs ≤ bucket_of q) → find (gathered bs) q ≡ None
+  pub find-without : (i : ℕ) (bs : List (Bucket T)) → AreBuckets i bs → (q : RingKey) → (bucket_of q < i) ⊎ (i + length bs ≤ bucket_of q) → find (gathered bs) q ≡ None
   find-without i [] are q other = refl
   find-without i (b ∷ bs) are q other =
       find-put_all b.entries (gathered bs) q
