@@ -1,7 +1,7 @@
 -- Laws of the buckets.
-use Rattle.std.proofs.Common.{◌≡◌, ℕ, zero, suc, ◌+◌, ◌<◌, ◌≤◌, Bool, true, false, cond, true≢false, List, [], ◌∷◌, length, map, ⊎_elim, ◌⊎◌, inl, inr, refl, sym, ap, ◌∙◌, subst, arith}
+use Rattle.std.proofs.Common.{◌≡◌, ℕ, zero, suc, ◌+◌, ◌<◌, ◌≤◌, Bool, true, false, cond, true≢false, List, [], ◌∷◌, length, map, ⊎_elim, ◌⊎◌, inl, inr, refl, sym, ap, ◌∙◌, subst, arith, Bor}
 use Rattle.std.specs.Prelude.{Option, Some, None, slice_index_or, slice_set}
-use Rattle.std.specs.Option.{is_some, option_map, option_or, unwrap_or, IsSome}
+use Rattle.std.specs.Option.{is_some, option_map, option_or, option_copied, unwrap_or, IsSome, IfNone}
 use Rattle.std.specs.Ordering.{is_eq, nat_cmp}
 use Rattle.std.specs.declared.cmp.Ordering.TheVariants.{Less, Equal, Greater}
 use Rattle.std.specs.Cmp.{IsTotalOrder, then_total, on_total, nat_cmp_total, tied_itself, eq_by_cmp_equiv}
@@ -171,6 +171,15 @@ module _ {T : Type 0} where
   pub held_in : (bs : List (Bucket T)) → AreBuckets 0 bs → (q : RingKey) (j : ℕ) (d : Bucket T) → j ≡ bucket_of q → j < length bs
       → find (rows_in bs) q ≡ option_map held_of (find (slice_index_or bs j d).entries q)
   held_in bs are q j d e within = find-rows bs q ∙ ap (option_map held_of) (find-bucket bs are q j d (sym e) within)
+
+  no_row : (x : Option (Held T)) (q : RingKey) → None ≡ option_map row_of (option_map (λ h. (q, h)) x) → x ≡ None
+  no_row None q e = refl
+  no_row (Some h) q e = absurd (true≢false (sym (ap is_some e)))
+
+  -- where no row is found, none stands
+  pub absent_from : (rows : List (RingKey × Held T)) (q : RingKey) (o : Option (Bor (Row T))) → option_copied o ≡ option_map row_of (at_key rows q) → IfNone o (find rows q ≡ None)
+  absent_from rows q None e = no_row (find rows q) q e
+  absent_from rows q (Some row) e = tt
 
 -- ---- an edit of one bucket at one key
 

@@ -8,6 +8,8 @@ mod fault;
 mod row;
 mod steps;
 mod table;
+#[cfg(test)]
+mod tests;
 
 pub use fault::InsertFault;
 pub use row::Row;

@@ -1,8 +1,10 @@
 //! The table, and what it says of its rows.
-ghost use Rattle.std.specs.Prelude.{◌≡◌, ◌<◌, [], length, option_map};
+ghost use Rattle.std.specs.Prelude.{◌≡◌, ◌<◌, ◌≤◌, [], length, None, option_map, IfNone};
 ghost use Rattle.std.specs.Option.{option_copied};
+ghost use Rattle.std.specs.List.Sorted.{IsStrictlySortedBy};
+ghost use Rattle.std.specs.Map.{keys_of};
 ghost use Rattle.argo_base.specs.Match.{key_cmp, match_of, at_key};
-ghost use Rattle.ring_table.specs.Rows.{row_of};
+ghost use Rattle.ring_table.specs.Rows.{held_at, most_rows, row_of};
 ghost use Rattle.ring_table.specs.Buckets as buckets;
 
 mod counted;
@@ -63,14 +65,17 @@ impl<T> Table<T> {
 
     /// How many rows there are.
     pub fn count(&self) -> u32
-        ensures { result ≡ length self.now }
+        ensures value { result ≡ length self.now }
+        ensures most { length self.now ≤ most_rows }
+        ensures rising { IsStrictlySortedBy key_cmp (keys_of self.now) }
     {
         self.count
     }
 
     /// The row of a key.
     pub fn find_exact(&self, key: RingKey) -> Option<&Row<T>>
-        ensures { option_copied result ≡ option_map row_of (at_key self.now key) }
+        ensures value { option_copied result ≡ option_map row_of (at_key self.now key) }
+        ensures absent { IfNone result (held_at self.now key ≡ None) }
     {
         let Some(bucket) = self.buckets.get(bucket_of(key)) else {
             return None;
