@@ -19,7 +19,7 @@ use Rattle.ring_table.specs.Scans.{lesser, nearer, next_in, next_of}
 use Rattle.ring_table.specs.Serials.{NoneAbove, IsNext}
 use Rattle.ring_table.proofs.BucketLaws.{Bucket, find, key_total, key_itself, find-rows, find-put_all, find-without, bucket_without}
 
-same_some : {A : Type 0} (x y : A) → Some x ≡ Some y → x ≡ y
+pub same_some : {A : Type 0} (x y : A) → Some x ≡ Some y → x ≡ y
 same_some x y e = ap (λ o. unwrap_or o x) e
 
 not_less : (x y : RingKey) → key_cmp x y ≡ Less → is_eq (key_cmp y x) ≡ false
@@ -106,7 +106,7 @@ module _ {T : Type 0} (s : ℕ) where
     fine_fold [] best h all = h
     fine_fold (row ∷ rows) best h all = fine_fold rows (nearer s best row) (fine_at best row (nat_le row.serial s) refl h all.0) all.1
 
-    abbrev AllRows : List (Bucket T) → Type 0
+    abbrev pub AllRows : List (Bucket T) → Type 0
     AllRows [] = Unit {0}
     AllRows (b ∷ bs) = AllByRecursion Q (values b) × AllRows bs
 
@@ -158,7 +158,7 @@ module _ {T : Type 0} where
       ∙ ap (λ o. option_or o (find (gathered bs) r.key)) (bucket_without i b is r.key (later i bs are r h))
       ∙ h
 
-  each_row : (s i : ℕ) (bs : List (Bucket T)) → AreBuckets i bs → AllRows s (λ r. find (gathered bs) r.key ≡ Some r) bs
+  pub each_row : (s i : ℕ) (bs : List (Bucket T)) → AreBuckets i bs → AllRows s (λ r. find (gathered bs) r.key ≡ Some r) bs
   each_row s i [] are = tt
   each_row s i (b ∷ bs) are = (
     by_entry (λ x. find b.entries x.0 ≡ Some x.1) (λ r. find (gathered (b ∷ bs)) r.key ≡ Some r) b.entries (own_found b i bs are.0) (each_found b.entries are.0.ordered),

@@ -23,6 +23,10 @@ module _ {T : Type 0} where
   abbrev pub held_of : Row T → Held T
   held_of row = held row.serial row.value
 
+  -- a row, as a key and what it holds
+  abbrev pub entry_of : Row T → RingKey × Held T
+  entry_of row = (row.key, held_of row)
+
   -- a key and what it holds, as a row
   abbrev pub row_of : RingKey × Held T → Row T
   row_of e = record { key = e.0; serial = e.1.serial; value = e.1.value }

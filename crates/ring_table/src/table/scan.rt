@@ -1,4 +1,4 @@
-//! The rows by their serials.
+//! The rows by their serials, and by their keys.
 ghost use Rattle.std.specs.Prelude.{◌≡◌, None};
 ghost use Rattle.std.specs.Option.{option_copied};
 ghost use Rattle.ring_table.specs.Scans as scans;
@@ -8,6 +8,8 @@ use crate::Row;
 
 impl<T> Table<T> {
     ghost use Rattle.std.specs.Option.{MatchOption};
+    ghost use Rattle.std.specs.Prelude.{slice_get, option_map};
+    ghost use Rattle.ring_table.specs.Rows.{entry_of};
     ghost use Rattle.ring_table.specs.Serials.{NoneAbove, IsNext};
 
     /// The row with the least serial above: from 0 on, one after another, every row whose serial is not 0.
@@ -15,6 +17,36 @@ impl<T> Table<T> {
         ensures { MatchOption result (NoneAbove self.now serial) (λ row. IsNext self.now serial row.now) }
     {
         next_of(self.buckets.as_slice(), serial)
+    }
+
+    /// The row with the least key: taken out one after another, the rows come by rising key.
+    pub fn first(&self) -> Option<&Row<T>>
+        ensures { option_map entry_of (option_copied result) ≡ slice_get self.now 0 }
+    {
+        first_of(self.buckets.as_slice())
+    }
+}
+
+fn first_of<T>(buckets: &[Bucket<T>]) -> Option<&Row<T>>
+    ensures { option_copied result ≡ scans.first_of None buckets.now }
+{
+    let mut best = None;
+    for bucket in buckets {
+        best = lower_first(best, bucket);
+    }
+    best
+}
+
+// The best so far, and the first row of a bucket.
+fn lower_first<'a, T>(best: Option<&'a Row<T>>, bucket: &'a Bucket<T>) -> Option<&'a Row<T>>
+    ensures { option_copied result ≡ scans.lower_first (option_copied best.entry) bucket.now.entries }
+{
+    let Some((_, row)) = bucket.first_key_value() else {
+        return best;
+    };
+    match best {
+        Some(best) if best.key <= row.key => Some(best),
+        _ => Some(row),
     }
 }
 
