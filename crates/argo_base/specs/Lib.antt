@@ -7,6 +7,7 @@ pub mod MessageList
 pub mod Messages
 pub mod Notices
 pub mod Pieces
+pub mod RingIds
 pub mod Rounds
 pub mod Slots
 pub mod Splice

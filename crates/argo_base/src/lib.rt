@@ -14,6 +14,7 @@ mod message;
 mod message_list;
 mod no_memory;
 mod piece;
+mod ring_id_set;
 mod ring_key;
 pub mod slots;
 #[cfg(test)]
@@ -30,4 +31,5 @@ pub use message::{Message, Messages};
 pub use message_list::MessageList;
 pub use no_memory::NoMemory;
 pub use piece::Piece;
+pub use ring_id_set::RingIdSet;
 pub use ring_key::{RingId, RingKey};
