@@ -4,9 +4,12 @@
 //! is held, and only the part whose rank stands last there may be given back. It stands on no crate.
 #![tactic(auto)]
 
+pub mod examples;
 mod gate;
 mod held;
 mod rw_gate;
+#[cfg(test)]
+mod tests;
 
 pub use gate::{Gate, LockPart};
 pub use held::Held;
