@@ -1,5 +1,5 @@
 -- Ranks that rise: as many as there can be, one more at their end, and one less.
-use Rattle.std.proofs.Common.{◌≡◌, ℕ, zero, suc, ◌+◌, ◌<◌, ◌≤◌, List, [], ◌∷◌, ◌++◌, length, take, arith}
+use Rattle.std.proofs.Common.{ℕ, zero, suc, ◌+◌, ◌<◌, ◌≤◌, List, [], ◌∷◌, ◌++◌, length, take, arith}
 use Rattle.lock_tokens.specs.Ranks.{IsAboveAll, RiseFrom}
 
 -- a rank above them all is above those after the first

@@ -12,7 +12,7 @@ fn one_thread_takes_gates_of_rising_rank_and_gives_them_back(rt: HostRuntime) ->
     *price.get_mut() = 8;
     assert_eq!(rt; bought(&rt, &mut held, &price, &sales, &purse), 15);
     *purse.get_mut() = Purse::of(99);
-    *sales.get_mut() += 1;
+    *sales.get_mut() = 3;
     assert_eq!(rt; bought(&rt, &mut held, &price, &sales, &purse), 91);
     assert_eq!(rt; sales.into_inner(), 4);
     assert_eq!(rt; purse.into_inner().coins(), 91);

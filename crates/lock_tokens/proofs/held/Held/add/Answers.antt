@@ -1,4 +1,4 @@
-use Rattle.std.proofs.Common.{rules, ◌≡◌, ◌<◌, [], ◌∷◌, ◌++◌, length, ◌+◌, ◌≤◌, arith, take, length-take}
+use Rattle.std.proofs.Common.{rules, ◌<◌, arith, take}
 use Rattle.std.proofs.lemmas.List.{take_more_set}
 use Rattle.lock_tokens.specs.Ranks.{IsAboveAll}
 use Rattle.lock_tokens.proofs.Rising.{few, rise-push}

@@ -1,4 +1,4 @@
-use Rattle.std.proofs.Common.{◌-◌, ◌≤◌, take, arith}
+use Rattle.std.proofs.Common.{◌-◌, take, arith}
 use Rattle.std.proofs.lemmas.List.{take-take}
 use Rattle.lock_tokens.proofs.Rising.{rise-take}
 use Rattle.lock_tokens.proofs.held.Held.drop_last.Goals as goal
