@@ -1,0 +1,3 @@
+mod BoardLaws
+mod FlagLaws
+mod SegmentLaws

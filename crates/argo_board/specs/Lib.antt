@@ -1,0 +1,4 @@
+pub mod Board
+pub mod Books
+pub mod Journal
+pub mod Segments
