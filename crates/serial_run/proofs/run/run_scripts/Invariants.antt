@@ -1,6 +1,6 @@
 use Rattle.std.proofs.Common.{◌≡◌, ◌≤◌, Vec, Global, ℕ, vec_capacity, length}
 use Rattle.argo_model.specs.Runs.Script.{Script}
-use Rattle.argo_model.specs.Machine.{Standing}
+use Rattle.argo_machine.specs.Machine.{Standing}
 use Rattle.argo_model.specs.Runs.Run.{run}
 use Rattle.serial_run.specs.declared.picks.Picks.{Picks}
 use Rattle.serial_run.specs.Picks.{open_sections, number_after, EachIsPick}
