@@ -12,6 +12,7 @@ use argo_base::slots::page_count;
 use guest_pages::PageRow;
 
 const PAGE: usize = PAGE_BYTES as usize;
+
 const HEADER: u32 = 64;
 
 // Writes bytes into the pages of a row from a byte of them on.
