@@ -1,5 +1,5 @@
 -- Pages that were lent, or could not be, as the calls of a domain's private pages say it.
-use Rattle.std.proofs.Common.{◌≡◌, ℕ, List, map, Option, Bool, true, false, refl, sym, ap, subst, ◌∙◌}
+use Rattle.std.proofs.Common.{◌≡◌, ℕ, List, map, Option, Bool, true, false, sym, ap, subst, ◌∙◌}
 use Rattle.std.specs.Prelude.{is_some}
 use Rattle.std.specs.List.{list_all}
 use Rattle.guest_pages.specs.declared.page.Lent.{Lent}
@@ -53,7 +53,7 @@ stands_again pages there back row row_there row_back a b c d =
     let so = swapped_back-swapped_in pages row in
     record {
       pages_so =
-      c ∙ ap (λ x. (swapped_back x row_there).0) a ∙ ap (λ x. (swapped_back (swapped_in pages row).0 x).0) b ∙ so.pages_back;
+          c ∙ ap (λ x. (swapped_back x row_there).0) a ∙ ap (λ x. (swapped_back (swapped_in pages row).0 x).0) b ∙ so.pages_back;
       row_so = d ∙ ap (λ x. (swapped_back x row_there).1) a ∙ ap (λ x. (swapped_back (swapped_in pages row).0 x).1) b ∙ so.row_back;
     }
 
@@ -68,5 +68,5 @@ has_row pages now pages' places row are is same seen p =
     record {
       are_pages = subst ArePages (sym p) (pages_after pages places are (row_whole_from_held places is.whole));
       is =
-      p ∙ with_row-swapped_in pages places is.whole ∙ ap (λ x. with_row x (map numbered places)) same ∙ ap (λ x. with_row now x) seen;
+          p ∙ with_row-swapped_in pages places is.whole ∙ ap (λ x. with_row x (map numbered places)) same ∙ ap (λ x. with_row now x) seen;
     }

@@ -51,8 +51,8 @@ pub row_with_bytes : (places : List Lent) (place : ℕ) (e : Lent) (bytes : List
 row_with_bytes places place e bytes are is whole =
     record {
       differ =
-      ap all_differ (map-set_same (λ (x : Lent). x.number) places place (place_of e.number (Some bytes)) e (ap (λ (x : Lent). x.number) is))
-      ∙ are.differ;
+          ap all_differ (map-set_same (λ (x : Lent). x.number) places place (place_of e.number (Some bytes)) e (ap (λ (x : Lent). x.number) is))
+          ∙ are.differ;
       whole = All-set (λ (x : Lent). HoldsPage x.page) places place (place_of e.number (Some bytes)) whole are.whole;
     }
 

@@ -5,7 +5,7 @@ use Rattle.std.specs.List.{list_all, All}
 use Rattle.std.proofs.Math.Seq.{drop-cons}
 use Rattle.std.proofs.lemmas.Bool.{cases_lt, cases_Bool, eqb-true, eqb-false, and_parts, not-true, both_ways}
 use Rattle.std.proofs.lemmas.List.{length-set, set-set, set-get_or, set_past, get_or-set_same, get_or-set_other, get_or-take, take-take, take-set, drop-set, get_or_past}
-use Rattle.std.proofs.lemmas.List.Elements.{All-nil, All-cons, All-head, All-tail, All-set, All-weaker, All-map}
+use Rattle.std.proofs.lemmas.List.Elements.{All-nil, All-cons, All-head, All-tail, All-set, All-weaker}
 use Rattle.guest_pages.specs.declared.page.Lent.{Lent}
 use Rattle.guest_pages.specs.Numbers.{has_number, all_differ}
 use Rattle.guest_pages.specs.PageBytes.{HoldsPage, IsWhole}
@@ -41,11 +41,11 @@ swapped_back-swapped_in pages (e ∷ es) =
     let back = swapped_back-swapped_in there es in
     record {
       pages_back =
-      ap (λ x. slice_set x e.number was) back.pages_back ∙ set-set pages e.number e.page was ∙ set-get_or pages e.number e.page;
+          ap (λ x. slice_set x e.number was) back.pages_back ∙ set-set pages e.number e.page was ∙ set-get_or pages e.number e.page;
       row_back =
-      ap (λ x. place_of e.number (slice_index_or x e.number was) ∷ (swapped_back (swapped_in there es).0 (swapped_in there es).1).1) back.pages_back
-      ∙ ap (λ x. place_of e.number (slice_index_or there e.number was) ∷ x) back.row_back
-      ∙ ap (λ x. place_of e.number x ∷ es) (twice pages e.number e.page);
+          ap (λ x. place_of e.number (slice_index_or x e.number was) ∷ (swapped_back (swapped_in there es).0 (swapped_in there es).1).1) back.pages_back
+          ∙ ap (λ x. place_of e.number (slice_index_or there e.number was) ∷ x) back.row_back
+          ∙ ap (λ x. place_of e.number x ∷ es) (twice pages e.number e.page);
     }
 
 -- ---- a step of the way back
@@ -74,14 +74,14 @@ back_step start init row pages pages' left k e e' next so is p n q =
       long = length-set row k e' ∙ so.long;
       pages_so = p ∙ ap (λ x. slice_set x e.number e.page) so.pages_so ∙ ap (λ xs. (swapped_back start xs).0) (sym d);
       row_so =
-      drop-set row k e' inside
-      ∙ ap (λ x. x ∷ drop (k + 1) row) (same_place e' e.number (slice_index_or pages e.number e.page) n q)
-      ∙ ap (λ x. place_of e.number (slice_index_or x e.number e.page) ∷ drop (k + 1) row) so.pages_so
-      ∙ ap (λ j. place_of e.number (slice_index_or rest.0 e.number e.page) ∷ drop j row) (sym next)
-      ∙ ap (λ x. place_of e.number (slice_index_or rest.0 e.number e.page) ∷ x) so.row_so
-      ∙ ap (λ xs. (swapped_back start xs).1) (sym d);
+          drop-set row k e' inside
+          ∙ ap (λ x. x ∷ drop (k + 1) row) (same_place e' e.number (slice_index_or pages e.number e.page) n q)
+          ∙ ap (λ x. place_of e.number (slice_index_or x e.number e.page) ∷ drop (k + 1) row) so.pages_so
+          ∙ ap (λ j. place_of e.number (slice_index_or rest.0 e.number e.page) ∷ drop j row) (sym next)
+          ∙ ap (λ x. place_of e.number (slice_index_or rest.0 e.number e.page) ∷ x) so.row_so
+          ∙ ap (λ xs. (swapped_back start xs).1) (sym d);
       before =
-      take-set row k e' ∙ sym (take-take k left row (omega arith)) ∙ ap (take k) so.before ∙ take-take k left init (omega arith);
+          take-set row k e' ∙ sym (take-take k left row (omega arith)) ∙ ap (take k) so.before ∙ take-take k left init (omega arith);
     }
 
 -- ---- what always holds of pages holds when they change places
@@ -108,8 +108,8 @@ swapped_in_whole pages (e ∷ es) are =
     record {
       pages_whole = rest.pages_whole;
       row_whole =
-      All-cons (λ (x : Lent). IsWhole x.page) (place_of e.number (slice_index_or pages e.number e.page))
-      (swapped_in (slice_set pages e.number e.page) es).1 (read_whole pages e.number e.page are.pages_whole here) rest.row_whole;
+          All-cons (λ (x : Lent). IsWhole x.page) (place_of e.number (slice_index_or pages e.number e.page))
+          (swapped_in (slice_set pages e.number e.page) es).1 (read_whole pages e.number e.page are.pages_whole here) rest.row_whole;
     }
 
 pub length-swapped_in : (pages : List (Option (List ℕ))) (row : List Lent) → length (swapped_in pages row).0 ≡ length pages
@@ -246,8 +246,8 @@ lent_row pages numbers whole full =
     let could : can_lend pages numbers ≡ true = sym (full-swapped_in pages numbers) ∙ full in
     record {
       differ =
-      ap all_differ (numbers-swapped_in pages row ∙ numbers-blanks numbers)
-      ∙ (and_parts (list_all (λ n. is_some (page_at pages n)) numbers) (all_differ numbers) could).1;
+          ap all_differ (numbers-swapped_in pages row ∙ numbers-blanks numbers)
+          ∙ (and_parts (list_all (λ n. is_some (page_at pages n)) numbers) (all_differ numbers) could).1;
       whole = row_held (swapped_in pages row).1 full (swapped_in_whole pages row (blanks_are_whole pages numbers whole)).row_whole;
     }
 

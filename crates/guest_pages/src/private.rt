@@ -98,7 +98,11 @@ impl Private {
 
     /// Takes a row back and hands out the pages of these numbers, which may be among those of the row. Where the pages
     /// cannot be lent, the old row comes back.
-    pub fn exchange(&mut self, old: PageRow, numbers: &[u64]) -> Result<PageRow, (PageRow, LendFault)>
+    pub fn exchange(
+        &mut self,
+        old: PageRow,
+        numbers: &[u64],
+    ) -> Result<PageRow, (PageRow, LendFault)>
         ensures row { IfOk result (λ row. row ≡ row_of (with_row self.old old) numbers.now) }
         ensures left { OnOk result (self.new ≡ without (with_row self.old old) numbers.now) }
         ensures could { OnOk result (IsTrue (can_lend (with_row self.old old) numbers.now)) }

@@ -14,6 +14,10 @@ fn pages_are_lent_where_there_is_memory(rt: HostRuntime) -> Result<(), Fail> {
     }
     let found = private.read(2, 4, 2)?.unwrap_or(Bytes::new(rt.alloc()));
     assert_eq!(rt; found.as_slice(), b"ab".as_slice());
-    assert!(rt; private.lend([1, 1].as_slice()).is_err_and(|fault| fault == LendFault::Pages));
+    assert!(rt;
+        private
+            .lend([1, 1].as_slice())
+            .is_err_and(|fault| fault == LendFault::Pages)
+    );
     Ok(())
 }

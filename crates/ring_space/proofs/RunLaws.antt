@@ -1,5 +1,5 @@
 -- Laws of copies between bytes and the slots of a ring.
-use Rattle.std.proofs.Common.{◌≡◌, ℕ, ◌+◌, ◌-◌, ◌*◌, ◌/◌, ◌%◌, ◌<◌, ◌≤◌, min, List, [], ◌++◌, length, take, drop, sym, ap, ◌∙◌, arith, ⊎_elim, length-take, length-drop}
+use Rattle.std.proofs.Common.{◌≡◌, ℕ, ◌+◌, ◌-◌, ◌*◌, ◌/◌, ◌%◌, ◌<◌, ◌≤◌, min, List, ◌++◌, length, take, drop, sym, ap, ◌∙◌, arith, ⊎_elim, length-take, length-drop}
 use Rattle.std.proofs.lemmas.Bool.{cases_lt}
 use Rattle.std.proofs.lemmas.List.{append-nil, take-append-drop, take-append-le, take_all, drop_all, drop-drop, drop-take, take-take, length-take-le, length-map}
 use Rattle.std.proofs.Math.Seq.{take-append-add}
@@ -37,11 +37,11 @@ writing_step start row row' from at n bytes rest part later so inside whole numb
       numbers = numbers ∙ so.numbers;
       sum = omega (arith, so.sum);
       so_far =
-      ap (λ x. splice x (at + n) later) (bytes_so ∙ ap (λ k. splice (row_bytes row) k part) place)
-      ∙ ap (λ k. splice (splice (row_bytes row) at part) (at + k) later) (sym part_long)
-      ∙ splice-splice (row_bytes row) part later at (omega (arith, so.sum))
-      ∙ ap (λ x. splice (row_bytes row) at x) joined
-      ∙ so.so_far;
+          ap (λ x. splice x (at + n) later) (bytes_so ∙ ap (λ k. splice (row_bytes row) k part) place)
+          ∙ ap (λ k. splice (splice (row_bytes row) at part) (at + k) later) (sym part_long)
+          ∙ splice-splice (row_bytes row) part later at (omega (arith, so.sum))
+          ∙ ap (λ x. splice (row_bytes row) at x) joined
+          ∙ so.so_far;
     }
 
 -- ---- bytes are read page by page

@@ -4,10 +4,15 @@ use Rattle.std.specs.Prelude.{ℕ, ◌+◌, ◌-◌, List, ◌++◌, take, drop}
 use Rattle.argo_base.specs.Layout.{u32_at, u32_bytes}
 use Rattle.argo_base.specs.Limits.{header_bytes}
 use Rattle.argo_base.specs.Splice.{splice}
+use Rattle.guest_pages.specs.Rows.{row_bytes}
 
 -- so many slot bytes of a ring
 abbrev pub slots : ℕ → List ℕ → List ℕ
 slots len own = take len (drop header_bytes own)
+
+-- so many slot bytes of a ring on the pages of a row
+abbrev pub row_slots : ℕ → List (ℕ × List ℕ) → List ℕ
+row_slots len row = slots len (row_bytes row)
 
 -- the slot bytes from a place on, round the ring's end
 abbrev pub bytes_from : ℕ → List ℕ → List ℕ

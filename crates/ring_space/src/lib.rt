@@ -5,9 +5,9 @@
 #![tactic(auto)]
 
 mod runs;
-mod words;
 #[cfg(test)]
 mod tests;
+mod words;
 
 pub use argo_base::slots::{advance, fits, page_count, sanitise, span, too_big, up};
 pub use runs::{read_run, write_run};

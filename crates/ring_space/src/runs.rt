@@ -5,13 +5,14 @@ ghost use Rattle.argo_base.specs.Rounds.{written_round};
 ghost use Rattle.argo_base.specs.Slots.{is_legal, is_place, page_count};
 ghost use Rattle.argo_base.specs.Splice.{splice};
 ghost use Rattle.guest_pages.specs.Rows.{row_bytes, numbers_of};
-ghost use Rattle.ring_space.specs.RingSlots.{slots, bytes_from, write_slots};
+ghost use Rattle.ring_space.specs.RingSlots.{row_slots, bytes_from, write_slots};
 
 use argo_base::PAGE_BYTES;
 use argo_base::slots::page_count;
 use guest_pages::PageRow;
 
 const PAGE: usize = PAGE_BYTES as usize;
+
 const HEADER: u32 = 64;
 
 // Writes bytes into the pages of a row from a byte of them on.
@@ -71,7 +72,7 @@ pub fn write_run(row: &mut PageRow, len: u32, at: u32, bytes: &[u8])
     requires short { length bytes.now ≤ len }
     ensures numbers { numbers_of row.new ≡ numbers_of row.old }
     ensures bytes { row_bytes row.new ≡ write_slots len at bytes.now (row_bytes row.old) }
-    ensures slots { slots len (row_bytes row.new) ≡ written_round len (slots len (row_bytes row.old)) at bytes.now }
+    ensures slots { row_slots len row.new ≡ written_round len (row_slots len row.old) at bytes.now }
 {
     let has_pages = row.count() == page_count(len) as usize;
     prove!(has_pages);
@@ -88,7 +89,7 @@ pub fn read_run(row: &PageRow, len: u32, at: u32, buf: &mut [u8])
     requires place { IsTrue (is_place len at) }
     requires pages { length row.now ≡ page_count len }
     requires short { length buf.old ≤ len }
-    ensures { buf.new ≡ take (length buf.old) (bytes_from at (slots len (row_bytes row.now))) }
+    ensures { buf.new ≡ take (length buf.old) (bytes_from at (row_slots len row.now)) }
 {
     let has_pages = row.count() == page_count(len) as usize;
     prove!(has_pages);

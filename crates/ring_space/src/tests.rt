@@ -29,7 +29,14 @@ fn write_one_by_one(plain: &mut [u8], at: u32, bytes: &[u8]) {
     }
 }
 
-fn write_both(rt: &impl Abort, alloc: Global, row: &mut PageRow, plain: &mut [u8], at: u32, n: usize) -> Result<(), Fail> {
+fn write_both(
+    rt: &impl Abort,
+    alloc: Global,
+    row: &mut PageRow,
+    plain: &mut [u8],
+    at: u32,
+    n: usize,
+) -> Result<(), Fail> {
     let bytes = pattern(alloc, at, n)?;
     let mut back = pattern(alloc, 0, n)?;
     assert!(rt; is_place(LEN, at));
@@ -44,7 +51,13 @@ fn write_both(rt: &impl Abort, alloc: Global, row: &mut PageRow, plain: &mut [u8
     Ok(())
 }
 
-fn write_each(rt: &impl Abort, alloc: Global, row: &mut PageRow, plain: &mut [u8], at: u32) -> Result<(), Fail> {
+fn write_each(
+    rt: &impl Abort,
+    alloc: Global,
+    row: &mut PageRow,
+    plain: &mut [u8],
+    at: u32,
+) -> Result<(), Fail> {
     for n in [0, 1, 16, 17, 4096, 8192] {
         write_both(rt, alloc, row, plain, at, n)?;
     }

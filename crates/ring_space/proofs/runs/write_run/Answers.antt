@@ -1,6 +1,4 @@
-use Rattle.std.proofs.Common.{◌≡◌, ◌+◌, ◌-◌, ◌*◌, ◌<◌, ◌≤◌, length, ap, ◌∙◌, arith}
-use Rattle.argo_base.specs.Limits.{page_bytes}
-use Rattle.argo_base.specs.Slots.{page_count}
+use Rattle.std.proofs.Common.{◌≡◌, ◌+◌, ◌≤◌, length, ap, ◌∙◌, arith}
 use Rattle.argo_base.proofs.SlotLaws.{page_count_holds, place}
 use Rattle.guest_pages.specs.Rows.{row_bytes}
 use Rattle.guest_pages.proofs.FlatLaws.{length-row_bytes}

@@ -1,4 +1,4 @@
-use Rattle.std.proofs.Common.{List, [], ◌∙◌, ap, sym, refl}
+use Rattle.std.proofs.Common.{[], ◌∙◌, ap, sym, refl}
 use Rattle.std.specs.Prelude.{unwrap_or}
 use Rattle.guest_pages.specs.PageBytes.{page_of}
 use Rattle.guest_pages.proofs.PageLaws.{length-page_of}
@@ -11,18 +11,19 @@ invariant_of-self-lent c =
     row_with_bytes c.self.inside.places.items c.args.place c.index_mut.result.now (page_of w) c.self.invariant c.index_mut.ensures.value (length-page_of w)
 
 pub returns : goal.returns
-returns c =
-    ( ( refl
-      , λ w.
-      with_bytes-numbered c.self.inside.places.items c.args.self.now c.args.place c.index_mut.result.now (page_of w) c.self.view_is c.requires
-      c.index_mut.ensures.value
-      )
-    , record {
-      writes_back = tt;
-      value =
-      c.bytes_mut.ensures.value
-      ∙ ap (λ p. unwrap_or p []) (sym c.page_mut.ensures.value)
-      ∙ ap (λ p. p.1)
-      (sym (page_in-numbered c.self.inside.places.items c.args.self.now c.args.place c.index_mut.result.now c.self.view_is c.requires c.index_mut.ensures.value));
-    }
-    )
+returns c = (
+  (
+    refl,
+    λ w.
+        with_bytes-numbered c.self.inside.places.items c.args.self.now c.args.place c.index_mut.result.now (page_of w) c.self.view_is c.requires
+        c.index_mut.ensures.value,
+  ),
+  record {
+    writes_back = tt;
+    value =
+        c.bytes_mut.ensures.value
+        ∙ ap (λ p. unwrap_or p []) (sym c.page_mut.ensures.value)
+        ∙ ap (λ p. p.1)
+        (sym (page_in-numbered c.self.inside.places.items c.args.self.now c.args.place c.index_mut.result.now c.self.view_is c.requires c.index_mut.ensures.value));
+  },
+)

@@ -1,6 +1,5 @@
-use Rattle.std.proofs.Common.{◌≡◌, List, [], ◌∙◌, ap, sym, length, take, drop}
+use Rattle.std.proofs.Common.{[], ◌∙◌, ap, sym, length, take, drop}
 use Rattle.std.specs.Prelude.{unwrap_or}
-use Rattle.guest_pages.specs.Rows.{page_in}
 use Rattle.guest_pages.proofs.FlatLaws.{length-row_bytes, page-row_bytes}
 use Rattle.guest_pages.proofs.RowLaws.{page_in-numbered, row_whole}
 use Rattle.guest_pages.proofs.page_row.PageRow.read.Goals as goal

@@ -1,4 +1,4 @@
-use Rattle.std.proofs.Common.{◌≡◌, ℕ, ◌<◌, List, [], ◌∙◌, ap, sym, length, arith}
+use Rattle.std.proofs.Common.{◌≡◌, [], ◌∙◌, ap, sym, length, arith}
 use Rattle.std.specs.Prelude.{unwrap_or}
 use Rattle.argo_base.specs.Splice.{splice}
 use Rattle.argo_base.proofs.SpliceLaws.{length-splice}
@@ -20,9 +20,9 @@ invariant_of-self c =
     row_whole c.self.inside.places.items c.args.self.now c.self.invariant c.self.view_is c.args.place (0, []) c.requires.inside in
     let whole : length c.page_mut.result.now ≡ 4096 = ap length (was c) ∙ long in
     row_with_bytes c.self.inside.places.items c.args.place c.index_mut.result.now c.write.new.self c.self.invariant c.index_mut.ensures.value
-    ( ap length c.write.ensures
-      ∙ length-splice c.page_mut.result.now c.args.bytes.now c.args.off (omega (arith, c.requires.in_page))
-      ∙ whole
+    (ap length c.write.ensures
+    ∙ length-splice c.page_mut.result.now c.args.bytes.now c.args.off (omega (arith, c.requires.in_page))
+    ∙ whole
     )
 
 pub returns-clause-numbers : goal.returns-clause-numbers

@@ -1,7 +1,7 @@
-use Rattle.std.proofs.Common.{◌≡◌, ◌∙◌, ap, sym, subst, map, true, false}
+use Rattle.std.proofs.Common.{◌∙◌, ap, sym, subst, map}
 use Rattle.std.specs.Prelude.{is_some}
 use Rattle.std.specs.List.{list_all}
-use Rattle.guest_pages.specs.Pages.{can_lend, row_of, without, with_row}
+use Rattle.guest_pages.specs.Pages.{can_lend, row_of, without}
 use Rattle.guest_pages.specs.PrivateInside.{ArePages}
 use Rattle.guest_pages.specs.RowInside.{IsRow}
 use Rattle.guest_pages.specs.Rows.{numbered}
