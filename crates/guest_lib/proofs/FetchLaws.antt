@@ -1,5 +1,5 @@
 -- The pieces of a recv, and one outcome of a fetch.
-use Rattle.std.proofs.Common.{◌≡◌, ℕ, ◌+◌, ◌-◌, ◌*◌, ◌/◌, ◌%◌, ◌<◌, ◌≤◌, min, Bool, true, List, [], ◌∷◌, ◌++◌, IsTrue, length, refl, sym, ap, ◌∙◌, subst, arith, length-append, drop, slice_get, Option, Some, None, false, sum_by, Result, Ok, Err, IfOk}
+use Rattle.std.proofs.Common.{◌≡◌, ℕ, ◌+◌, ◌-◌, ◌*◌, ◌/◌, ◌%◌, ◌<◌, ◌≤◌, min, List, [], ◌∷◌, ◌++◌, IsTrue, length, refl, ap, ◌∙◌, subst, arith, length-append, drop, slice_get, Some, false, sum_by, Result, Ok, Err, IfOk}
 use Rattle.std.proofs.lemmas.Bool.Decides.{nat_tests}
 use Rattle.std.proofs.lemmas.List.Sums.{sum_by-cons}
 use Rattle.std.specs.Option.{is_some}
@@ -15,7 +15,7 @@ use Rattle.argo_model.specs.declared.action.Outcome.TheVariants.{Bytes}
 use Rattle.argo_model.specs.declared.received.Received.{Received}
 use Rattle.argo_model.specs.declared.received.Received.TheVariants.{Fault, Msg}
 use Rattle.argo_model.specs.Rules.Outcomes.{can_have}
-use Rattle.argo_model.specs.Programs.Asks.{Next, Do, Rests, unless_gone, if_bytes, if_done, fetch_all, put_all}
+use Rattle.argo_model.specs.Programs.Asks.{Next, Do, Rests, fetch_all, put_all}
 use Rattle.argo_model.specs.Programs.Recv.{End, slot_pieces, put_rx}
 use Rattle.guest_lib.specs.Ends.{EndsFetch, EndsPut}
 use Rattle.guest_lib.specs.Receiving.{ended, CanFollow}

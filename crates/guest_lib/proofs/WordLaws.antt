@@ -1,5 +1,5 @@
 -- What the two words and the header lead to.
-use Rattle.std.proofs.Common.{◌≡◌, ◌≢◌, ℕ, ◌+◌, ◌-◌, ◌*◌, ◌%◌, ◌<◌, ◌≤◌, Bool, true, false, not, ◌&&◌, ◌||◌, ◌==◌, List, [], length, take, IsTrue, refl, ap, ◌∙◌, arith}
+use Rattle.std.proofs.Common.{◌≡◌, ◌≢◌, ℕ, ◌+◌, ◌-◌, ◌*◌, ◌%◌, ◌<◌, ◌≤◌, Bool, true, false, not, ◌&&◌, ◌==◌, List, [], length, take, IsTrue, refl, ap, ◌∙◌, arith}
 use Rattle.std.proofs.lemmas.Bool.Decides.{nat_tests}
 use Rattle.std.proofs.lemmas.List.{take_all}
 use Rattle.argo_base.specs.declared.piece.Piece.{Piece}
@@ -8,7 +8,7 @@ use Rattle.argo_base.specs.Slots.{is_legal, is_place, up, place_after}
 use Rattle.argo_abi.specs.declared.message_head.MessageHead.{MessageHead}
 use Rattle.argo_abi.specs.Structures.{message_head_of}
 use Rattle.argo_model.specs.declared.action.Outcome.{Outcome}
-use Rattle.argo_model.specs.declared.received.Received.TheVariants.{Bad, Empty}
+use Rattle.argo_model.specs.declared.received.Received.TheVariants.{Bad}
 use Rattle.argo_model.specs.Programs.Asks.{Next, Rests}
 use Rattle.argo_model.specs.Programs.Recv.{End, end_if, recv_words, recv_head, is_message_size, take_slots, recv_body, slot_pieces}
 use Rattle.guest_lib.specs.Receiving.{head_ahead, ahead_at, ReadBody}

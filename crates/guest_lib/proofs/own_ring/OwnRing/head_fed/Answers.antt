@@ -1,4 +1,4 @@
-use Rattle.std.proofs.Common.{◌≡◌, ◌+◌, ◌-◌, ◌*◌, ◌/◌, ◌%◌, ◌≤◌, ◌<◌, arith, ◌∙◌, sym, ap}
+use Rattle.std.proofs.Common.{◌+◌, ◌-◌, ◌*◌, ◌/◌, ◌%◌, arith, ◌∙◌, sym, ap}
 use Rattle.argo_base.specs.Slots.{place_after}
 use Rattle.argo_abi.specs.declared.message_head.MessageHead.{MessageHead}
 use Rattle.argo_model.specs.Programs.Recv.{is_message_size, slot_pieces}

@@ -1,6 +1,4 @@
 use Rattle.std.proofs.Common.{arith}
-use Rattle.argo_model.specs.Programs.Recv.{recv_tx}
-use Rattle.argo_base.specs.Layout.{u32_at}
 use Rattle.guest_lib.proofs.FetchLaws.{rx_piece, fetch_ended}
 use Rattle.guest_lib.proofs.own_ring.OwnRing.rx_fed.Goals as goal
 

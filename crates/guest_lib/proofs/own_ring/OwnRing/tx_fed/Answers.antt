@@ -1,5 +1,4 @@
 use Rattle.std.proofs.Common.{rules, arith, ◌*◌, ◌∙◌, sym, ap}
-use Rattle.argo_base.specs.Slots.{is_place}
 use Rattle.argo_model.specs.Programs.Recv.{recv_words}
 use Rattle.guest_lib.proofs.FetchLaws.{tx_piece, fetched, fetch_ended}
 use Rattle.guest_lib.proofs.WordLaws.{words_good}

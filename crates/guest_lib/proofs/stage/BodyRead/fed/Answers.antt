@@ -1,6 +1,5 @@
-use Rattle.std.proofs.Common.{◌≡◌, ◌+◌, ◌*◌, ◌++◌, if◌then◌else◌, length, drop, sum_by, sym, refl, ◌∙◌, ap, arith, length-append, length-drop}
+use Rattle.std.proofs.Common.{◌*◌, ◌++◌, if◌then◌else◌, length, sym, refl, ◌∙◌, ap, arith, length-append, length-drop}
 use Rattle.std.specs.Result.{is_ok}
-use Rattle.argo_base.specs.declared.piece.Piece.{Piece}
 use Rattle.argo_model.specs.declared.received.Received.TheVariants.{Fault}
 use Rattle.argo_model.specs.Programs.Asks.{fetch_all}
 use Rattle.argo_model.specs.Programs.Recv.{put_rx}

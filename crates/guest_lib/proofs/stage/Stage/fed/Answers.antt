@@ -1,7 +1,5 @@
-use Rattle.std.proofs.Common.{[], sym, arith, subst}
-use Rattle.argo_model.specs.Programs.Recv.{say_received}
+use Rattle.std.proofs.Common.{sym, arith, subst}
 use Rattle.guest_lib.specs.declared.stage.Stage.{Stage}
-use Rattle.guest_lib.specs.Receiving.{ahead_at, CanFollow}
 use Rattle.guest_lib.specs.Stage.{step_of, CanHear}
 use Rattle.guest_lib.proofs.FetchLaws.{can_fetch, put_ended}
 use Rattle.guest_lib.proofs.stage.Stage.fed.Goals as goal

@@ -1,10 +1,7 @@
-use Rattle.std.proofs.Common.{◌≡◌, ℕ, [], subst}
+use Rattle.std.proofs.Common.{subst}
 use Rattle.argo_model.specs.declared.action.Action.{Action}
-use Rattle.argo_model.specs.Programs.Asks.{Do}
-use Rattle.argo_model.specs.Programs.Recv.{End}
 use Rattle.guest_lib.specs.declared.own_ring.OwnRing.{OwnRing}
 use Rattle.guest_lib.specs.declared.stage.Stage.{Stage}
-use Rattle.guest_lib.specs.Receiving.{ahead_at}
 use Rattle.guest_lib.specs.Stage.{IsStage, IsAction, read_body}
 use Rattle.guest_lib.proofs.FetchLaws.{in_ok}
 use Rattle.guest_lib.proofs.stage.Stage.next.Goals as goal
