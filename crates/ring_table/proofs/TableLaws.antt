@@ -30,9 +30,10 @@ module _ {T : Type 0} (bs : List (Bucket T)) (n : ℕ) (t : IsTable bs n) (key :
       let fewer = length-remove key_total (is_at (key_cmp key)) (rows_in bs) (held_of old) held_there in
       let same = ap length rows_without in
       let counted = t.counted in
-      let most = t.most in
-      (omega (arith, fewer, same, counted),
-        table_after bs t.buckets key j at_key within d b None updates own_none ordered n (n - 1) t (omega (arith, fewer, same, counted)) (omega (arith, most)))
+      let most = t.most in (
+        omega (arith, fewer, same, counted),
+        table_after bs t.buckets key j at_key within d b None updates own_none ordered n (n - 1) t (omega (arith, fewer, same, counted)) (omega (arith, most)),
+      )
 
   pub table_same : find (slice_index_or bs j d).entries key ≡ None → IsTable (slice_set bs j b) n
   table_same absent =
@@ -107,10 +108,13 @@ module _ {T : Type 0} where
 
   kept_buckets : (i : ℕ) (bs : List (Bucket T)) (j : ℕ) (d b : Bucket T) → AreBuckets i bs → b.entries ≡ (slice_index_or bs j d).entries → AreBuckets i (slice_set bs j b)
   kept_buckets i [] j d b are e = tt
-  kept_buckets i (c ∷ bs) zero d b are e = (record {
-    ordered = subst (λ es. IsStrictlySortedBy key_cmp (keys_of es)) (sym e) are.0.ordered;
-    own = λ q row h. are.0.own q row (ap (λ es. find es q) (sym e) ∙ h);
-  }, are.1)
+  kept_buckets i (c ∷ bs) zero d b are e = (
+    record {
+      ordered = subst (λ es. IsStrictlySortedBy key_cmp (keys_of es)) (sym e) are.0.ordered;
+      own = λ q row h. are.0.own q row (ap (λ es. find es q) (sym e) ∙ h);
+    },
+    are.1,
+  )
   kept_buckets i (c ∷ bs) (suc j) d b are e = (are.0, kept_buckets (i + 1) bs j d b are.1 e)
 
   pub kept_table : (bs : List (Bucket T)) (n : ℕ) (j : ℕ) (d b : Bucket T) → IsTable bs n → b.entries ≡ (slice_index_or bs j d).entries → IsTable (slice_set bs j b) n
