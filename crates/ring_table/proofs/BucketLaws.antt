@@ -20,7 +20,7 @@ use Rattle.ring_table.specs.declared.row.Row.{Row}
 use Rattle.ring_table.specs.Rows.{Held, held, held_of, row_of, most_rows}
 use Rattle.ring_table.specs.Buckets.{bucket_of, put_all, gathered, rows_in, IsBucket, AreBuckets, IsTable}
 use Rattle.ring_table.specs.Edits.{with_value}
-use Rattle.ring_table.proofs.EntryLaws.{find-insert, sorted-insert, length-insert, sorted-remove, length-remove, remove-absent, same_entries}
+use Rattle.ring_table.proofs.EntryLaws.{find-insert, sorted-insert, sorted-remove, same_entries}
 
 -- ---- the order of keys
 

@@ -1,6 +1,6 @@
 -- Laws of a whole table, for each way to change it.
-use Rattle.std.proofs.Common.{◌≡◌, ℕ, zero, suc, ◌+◌, ◌-◌, ◌<◌, ◌≤◌, cond, List, [], ◌∷◌, ◌++◌, length, ◌⊎◌, ⊎_elim, refl, sym, ap, ◌∙◌, subst, arith, map, inr, true≢false}
-use Rattle.std.specs.Prelude.{Option, Some, None, slice_index_or, slice_set}
+use Rattle.std.proofs.Common.{◌≡◌, ℕ, zero, suc, ◌+◌, ◌-◌, ◌<◌, cond, List, [], ◌∷◌, ◌++◌, length, ◌⊎◌, ⊎_elim, refl, sym, ap, ◌∙◌, subst, arith, map, inr, true≢false}
+use Rattle.std.specs.Prelude.{Some, None, slice_index_or, slice_set}
 use Rattle.std.specs.Option.{is_some, option_map, unwrap_or}
 use Rattle.std.specs.List.Sorted.{IsStrictlySortedBy}
 use Rattle.std.specs.Map.{keys_of, remove_entry}
@@ -9,7 +9,7 @@ use Rattle.std.proofs.lemmas.List.{length-set}
 use Rattle.argo_base.specs.declared.ring_key.RingKey.{RingKey}
 use Rattle.argo_base.specs.Match.{key_cmp}
 use Rattle.ring_table.specs.declared.row.Row.{Row}
-use Rattle.ring_table.specs.Rows.{Held, held_of, most_rows}
+use Rattle.ring_table.specs.Rows.{held_of, most_rows}
 use Rattle.ring_table.specs.Buckets.{bucket_of, put_all, gathered, rows_in, IsBucket, AreBuckets, IsTable, AreEmpty, Made}
 use Rattle.ring_table.proofs.EntryLaws.{length-insert, length-remove, remove-absent}
 use Rattle.ring_table.proofs.BucketLaws.{Bucket, key_total, find, held_in, inserted, removed, table_after}

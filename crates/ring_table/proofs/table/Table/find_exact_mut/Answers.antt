@@ -1,4 +1,4 @@
-use Rattle.std.proofs.Common.{◌≡◌, ap, sym, ◌∙◌, ◌<◌, length, subst, slice_index_or, slice_set, option_map, is_some, inr, cond}
+use Rattle.std.proofs.Common.{◌≡◌, ap, sym, ◌∙◌, slice_set, option_map, is_some, inr, cond}
 use Rattle.std.specs.Prelude.{Some}
 use Rattle.std.specs.BTreeMap.{is_at}
 use Rattle.std.proofs.lemmas.List.{set-get_or}

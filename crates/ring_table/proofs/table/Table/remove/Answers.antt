@@ -1,5 +1,5 @@
-use Rattle.std.proofs.Common.{ap, sym, ◌∙◌, slice_index_or, option_map, cond}
-use Rattle.std.specs.Prelude.{Option, None}
+use Rattle.std.proofs.Common.{ap, sym, ◌∙◌, option_map, cond}
+use Rattle.std.specs.Prelude.{None}
 use Rattle.std.specs.Map.{remove_entry}
 use Rattle.std.specs.BTreeMap.{is_at}
 use Rattle.argo_base.specs.Match.{key_cmp}
