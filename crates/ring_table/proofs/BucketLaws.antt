@@ -20,7 +20,7 @@ use Rattle.ring_table.specs.declared.row.Row.{Row}
 use Rattle.ring_table.specs.Rows.{Held, held, held_of, row_of, most_rows}
 use Rattle.ring_table.specs.Buckets.{bucket_of, put_all, gathered, rows_in, IsBucket, AreBuckets, IsTable}
 use Rattle.ring_table.specs.Edits.{with_value}
-use Rattle.ring_table.proofs.EntryLaws.{find-insert, sorted-insert, length-insert, sorted-remove, length-remove, remove-absent, same_entries}
+use Rattle.ring_table.proofs.EntryLaws.{find-insert, sorted-insert, sorted-remove, same_entries}
 
 -- ---- the order of keys
 
@@ -210,12 +210,12 @@ module _ {T : Type 0} (bs : List (Bucket T)) (are : AreBuckets 0 bs) (key : Ring
   elsewhere : (q : RingKey) → (bucket_of q ≡ j → ⊥) → find (gathered (slice_set bs j b)) q ≡ find (gathered bs) q
   elsewhere q other = ⊎_elim
       (λ inside.
-        find-bucket (slice_set bs j b) edited_buckets q (bucket_of q) d refl (omega (arith, inside, edited_length))
-        ∙ ap (λ c. find c.entries q) (get_or-set_other bs j (bucket_of q) b d other)
-        ∙ sym (find-bucket bs are q (bucket_of q) d refl inside))
+      find-bucket (slice_set bs j b) edited_buckets q (bucket_of q) d refl (omega (arith, inside, edited_length))
+      ∙ ap (λ c. find c.entries q) (get_or-set_other bs j (bucket_of q) b d other)
+      ∙ sym (find-bucket bs are q (bucket_of q) d refl inside))
       (λ past.
-        find-past (slice_set bs j b) edited_buckets q (omega (arith, past, edited_length))
-        ∙ sym (find-past bs are q past))
+      find-past (slice_set bs j b) edited_buckets q (omega (arith, past, edited_length))
+      ∙ sym (find-past bs are q past))
       (cases_lt (bucket_of q) (length bs))
 
   not_key : (q : RingKey) → (bucket_of q ≡ j → ⊥) → is_at (key_cmp key) q ≡ false
@@ -241,8 +241,8 @@ module _ {T : Type 0} (bs : List (Bucket T)) (are : AreBuckets 0 bs) (key : Ring
       same_entries key_total key_exact (rows_in (slice_set bs j b)) (insert_entry key_cmp (rows_in bs) key (held_of row))
       (sorted-rows (slice_set bs j b)) (sorted-insert key_total key (held_of row) (rows_in bs) (sorted-rows bs))
       (λ q. find-edited_rows q
-        ∙ ap (λ x. cond (is_at (key_cmp key) q) (option_map held_of x) (find (rows_in bs) q)) e
-        ∙ sym (find-insert key_total key (held_of row) (rows_in bs) q))
+      ∙ ap (λ x. cond (is_at (key_cmp key) q) (option_map held_of x) (find (rows_in bs) q)) e
+      ∙ sym (find-insert key_total key (held_of row) (rows_in bs) q))
 
   one_key : (x y : RingKey) → is_at (key_cmp key) x ≡ true → is_at (key_cmp key) y ≡ is_eq (key_cmp x y)
   one_key x y h = ap (λ k. is_eq (key_cmp k y)) (key_is key x h)
@@ -252,16 +252,16 @@ module _ {T : Type 0} (bs : List (Bucket T)) (are : AreBuckets 0 bs) (key : Ring
       same_entries key_total key_exact (rows_in (slice_set bs j b)) (remove_entry (is_at (key_cmp key)) (rows_in bs))
       (sorted-rows (slice_set bs j b)) (sorted-remove key_total (is_at (key_cmp key)) (rows_in bs) (sorted-rows bs))
       (λ q. find-edited_rows q
-        ∙ ap (λ x. cond (is_at (key_cmp key) q) (option_map held_of x) (find (rows_in bs) q)) e
-        ∙ sym (lookup-remove_entry (eq_by_cmp_equiv key_total) (is_at (key_cmp key)) one_key q (rows_in bs) (IsDistinct-from_sorted key_cmp _ (sorted-rows bs))))
+      ∙ ap (λ x. cond (is_at (key_cmp key) q) (option_map held_of x) (find (rows_in bs) q)) e
+      ∙ sym (lookup-remove_entry (eq_by_cmp_equiv key_total) (is_at (key_cmp key)) one_key q (rows_in bs) (IsDistinct-from_sorted key_cmp _ (sorted-rows bs))))
 
   pub written : (row : Row T) → w ≡ Some row → IsSome (find (rows_in bs) key) → rows_in (slice_set bs j b) ≡ set_value (is_at (key_cmp key)) (rows_in bs) (held_of row)
   written row e there =
       same_entries key_total key_exact (rows_in (slice_set bs j b)) (set_value (is_at (key_cmp key)) (rows_in bs) (held_of row))
       (sorted-rows (slice_set bs j b)) (subst (IsStrictlySortedBy key_cmp) (sym (keys-set_value (is_at (key_cmp key)) (rows_in bs) (held_of row))) (sorted-rows bs))
       (λ q. find-edited_rows q
-        ∙ ap (λ x. cond (is_at (key_cmp key) q) (option_map held_of x) (find (rows_in bs) q)) e
-        ∙ sym (lookup-set_value (eq_by_cmp_equiv key_total) (is_at (key_cmp key)) one_key q (held_of row) (rows_in bs) there))
+      ∙ ap (λ x. cond (is_at (key_cmp key) q) (option_map held_of x) (find (rows_in bs) q)) e
+      ∙ sym (lookup-set_value (eq_by_cmp_equiv key_total) (is_at (key_cmp key)) one_key q (held_of row) (rows_in bs) there))
 
   serial_of : (x : Option (Held T)) (row : Row T) → x ≡ Some (held_of row) → unwrap_or (option_map (λ h. h.serial) x) 0 ≡ row.serial
   serial_of x row h = ap (λ y. unwrap_or (option_map (λ h. h.serial) y) 0) h

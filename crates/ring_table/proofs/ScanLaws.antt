@@ -1,19 +1,18 @@
 -- Laws of going through the rows for the least serial above another.
-use Rattle.std.proofs.Common.{◌≡◌, ℕ, suc, ◌+◌, ◌<◌, ◌≤◌, Bool, true, false, cond, List, [], ◌∷◌, length, ◌⊎◌, inl, inr, ⊎_elim, refl, sym, ap, ◌∙◌, subst, arith, true≢false, Bor}
+use Rattle.std.proofs.Common.{◌≡◌, ℕ, ◌+◌, ◌<◌, ◌≤◌, Bool, true, false, cond, List, [], ◌∷◌, inl, refl, sym, ap, ◌∙◌, subst, arith, true≢false, Bor}
 use Rattle.std.specs.Prelude.{Option, Some, None, nat_le}
-use Rattle.std.specs.Option.{is_some, option_map, option_or, option_copied, unwrap_or, IfSome, MatchOption}
+use Rattle.std.specs.Option.{is_some, option_map, option_or, option_copied, unwrap_or, IfSome, IfNone, MatchOption}
 use Rattle.std.specs.Ordering.{is_eq, ordering_reverse}
-use Rattle.std.specs.declared.cmp.Ordering.TheVariants.{Less, Equal, Greater}
+use Rattle.std.specs.declared.cmp.Ordering.TheVariants.{Less}
 use Rattle.std.specs.List.{fold, AllByRecursion}
 use Rattle.std.specs.List.Sorted.{IsStrictlySortedBy}
 use Rattle.std.specs.Map.{keys_of, values_of}
-use Rattle.std.specs.BTreeMap.{BTreeMap, is_at, values}
-use Rattle.std.proofs.lemmas.Bool.{cases_Bool}
+use Rattle.std.specs.BTreeMap.{is_at, values}
 use Rattle.std.proofs.lemmas.Bool.Decides.{nat_tests}
 use Rattle.argo_base.specs.declared.ring_key.RingKey.{RingKey}
 use Rattle.argo_base.specs.Match.{key_cmp}
 use Rattle.ring_table.specs.declared.row.Row.{Row}
-use Rattle.ring_table.specs.Rows.{Held, held_of, held_at}
+use Rattle.ring_table.specs.Rows.{Held, held_of}
 use Rattle.ring_table.specs.Buckets.{bucket_of, gathered, rows_in, IsBucket, AreBuckets}
 use Rattle.ring_table.specs.Scans.{lesser, nearer, next_in, next_of}
 use Rattle.ring_table.specs.Serials.{NoneAbove, IsNext}
@@ -184,6 +183,10 @@ module _ {T : Type 0} where
   after_is s bs are = after_at s bs (next_of s None bs) (bound_all s bs None) (fine_all s (λ r. find (gathered bs) r.key ≡ Some r) bs None tt (each_row s 0 bs are))
 
 -- what is said of a copy is said of what the reference points to
-pub of_copy : {A : Type 0} (N : Type 0) (P : A → Type 0) (o : Option (Bor A)) → MatchOption (option_copied o) N P → MatchOption o N (λ r. P r.now)
-of_copy N P None h = h
-of_copy N P (Some r) h = h
+pub some_of_copy : {A : Type 0} (N : Type 0) (P : A → Type 0) (o : Option (Bor A)) → MatchOption (option_copied o) N P → IfSome o (λ r. P r.now)
+some_of_copy N P None h = tt
+some_of_copy N P (Some r) h = h
+
+pub none_of_copy : {A : Type 0} (N : Type 0) (P : A → Type 0) (o : Option (Bor A)) → MatchOption (option_copied o) N P → IfNone o N
+none_of_copy N P None h = h
+none_of_copy N P (Some r) h = tt

@@ -1,6 +1,6 @@
 -- Laws of a whole table, for each way to change it.
-use Rattle.std.proofs.Common.{◌≡◌, ℕ, zero, suc, ◌+◌, ◌-◌, ◌<◌, ◌≤◌, cond, List, [], ◌∷◌, ◌++◌, length, ◌⊎◌, ⊎_elim, refl, sym, ap, ◌∙◌, subst, arith, map, inr, true≢false}
-use Rattle.std.specs.Prelude.{Option, Some, None, slice_index_or, slice_set}
+use Rattle.std.proofs.Common.{◌≡◌, ℕ, zero, suc, ◌+◌, ◌-◌, ◌<◌, cond, List, [], ◌∷◌, ◌++◌, length, ◌⊎◌, ⊎_elim, refl, sym, ap, ◌∙◌, subst, arith, map, inr, true≢false}
+use Rattle.std.specs.Prelude.{Some, None, slice_index_or, slice_set}
 use Rattle.std.specs.Option.{is_some, option_map, unwrap_or}
 use Rattle.std.specs.List.Sorted.{IsStrictlySortedBy}
 use Rattle.std.specs.Map.{keys_of, remove_entry}
@@ -9,7 +9,7 @@ use Rattle.std.proofs.lemmas.List.{length-set}
 use Rattle.argo_base.specs.declared.ring_key.RingKey.{RingKey}
 use Rattle.argo_base.specs.Match.{key_cmp}
 use Rattle.ring_table.specs.declared.row.Row.{Row}
-use Rattle.ring_table.specs.Rows.{Held, held_of, most_rows}
+use Rattle.ring_table.specs.Rows.{held_of, most_rows}
 use Rattle.ring_table.specs.Buckets.{bucket_of, put_all, gathered, rows_in, IsBucket, AreBuckets, IsTable, AreEmpty, Made}
 use Rattle.ring_table.proofs.EntryLaws.{length-insert, length-remove, remove-absent}
 use Rattle.ring_table.proofs.BucketLaws.{Bucket, key_total, find, held_in, inserted, removed, table_after}
@@ -30,9 +30,10 @@ module _ {T : Type 0} (bs : List (Bucket T)) (n : ℕ) (t : IsTable bs n) (key :
       let fewer = length-remove key_total (is_at (key_cmp key)) (rows_in bs) (held_of old) held_there in
       let same = ap length rows_without in
       let counted = t.counted in
-      let most = t.most in
-      (omega (arith, fewer, same, counted),
-        table_after bs t.buckets key j at_key within d b None updates own_none ordered n (n - 1) t (omega (arith, fewer, same, counted)) (omega (arith, most)))
+      let most = t.most in (
+        omega (arith, fewer, same, counted),
+        table_after bs t.buckets key j at_key within d b None updates own_none ordered n (n - 1) t (omega (arith, fewer, same, counted)) (omega (arith, most)),
+      )
 
   pub table_same : find (slice_index_or bs j d).entries key ≡ None → IsTable (slice_set bs j b) n
   table_same absent =
@@ -107,10 +108,13 @@ module _ {T : Type 0} where
 
   kept_buckets : (i : ℕ) (bs : List (Bucket T)) (j : ℕ) (d b : Bucket T) → AreBuckets i bs → b.entries ≡ (slice_index_or bs j d).entries → AreBuckets i (slice_set bs j b)
   kept_buckets i [] j d b are e = tt
-  kept_buckets i (c ∷ bs) zero d b are e = (record {
-    ordered = subst (λ es. IsStrictlySortedBy key_cmp (keys_of es)) (sym e) are.0.ordered;
-    own = λ q row h. are.0.own q row (ap (λ es. find es q) (sym e) ∙ h);
-  }, are.1)
+  kept_buckets i (c ∷ bs) zero d b are e = (
+    record {
+      ordered = subst (λ es. IsStrictlySortedBy key_cmp (keys_of es)) (sym e) are.0.ordered;
+      own = λ q row h. are.0.own q row (ap (λ es. find es q) (sym e) ∙ h);
+    },
+    are.1,
+  )
   kept_buckets i (c ∷ bs) (suc j) d b are e = (are.0, kept_buckets (i + 1) bs j d b are.1 e)
 
   pub kept_table : (bs : List (Bucket T)) (n : ℕ) (j : ℕ) (d b : Bucket T) → IsTable bs n → b.entries ≡ (slice_index_or bs j d).entries → IsTable (slice_set bs j b) n

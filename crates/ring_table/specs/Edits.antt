@@ -1,8 +1,8 @@
 -- What the rows are after an edit.
-use Rattle.std.specs.Prelude.{Bool, true, false, List, option_map, Result, Ok, Err}
+use Rattle.std.specs.Prelude.{ℕ, Bool, true, false, List, option_map, Result, Ok, Err}
 use Rattle.std.specs.Option.{unwrap_or}
-use Rattle.std.specs.Map.{set_value}
-use Rattle.std.specs.BTreeMap.{is_at}
+use Rattle.std.specs.Map.{remove_entry, set_value}
+use Rattle.std.specs.BTreeMap.{insert_entry, is_at}
 use Rattle.argo_base.specs.declared.ring_key.RingKey.{RingKey}
 use Rattle.argo_base.specs.Match.{key_cmp}
 use Rattle.ring_table.specs.declared.fault.InsertFault.{InsertFault}
@@ -10,6 +10,14 @@ use Rattle.ring_table.specs.declared.fault.InsertFault.TheVariants.{Full, NoMemo
 use Rattle.ring_table.specs.Rows.{Held, held, held_at}
 
 module _ {T : Type 0} where
+  -- the rows with a row more
+  abbrev pub with_row : List (RingKey × Held T) → RingKey → ℕ → T → List (RingKey × Held T)
+  with_row rows key serial value = insert_entry key_cmp rows key (held serial value)
+
+  -- the rows without a key's row
+  abbrev pub without_row : List (RingKey × Held T) → RingKey → List (RingKey × Held T)
+  without_row rows key = remove_entry (is_at (key_cmp key)) rows
+
   -- the rows with another value at a key, whose serial stays
   abbrev pub with_value : List (RingKey × Held T) → RingKey → T → List (RingKey × Held T)
   with_value rows key value = set_value (is_at (key_cmp key)) rows (held (unwrap_or (option_map (λ h. h.serial) (held_at rows key)) 0) value)

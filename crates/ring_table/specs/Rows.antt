@@ -34,3 +34,7 @@ module _ {T : Type 0} where
   -- what stands under a key
   abbrev pub held_at : List (RingKey × Held T) → RingKey → Option (Held T)
   held_at rows key = lookup (is_at (key_cmp key)) rows
+
+  -- the value that stands under a key
+  abbrev pub value_at : List (RingKey × Held T) → RingKey → Option T
+  value_at rows key = option_map (λ h. h.value) (held_at rows key)

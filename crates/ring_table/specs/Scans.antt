@@ -30,11 +30,14 @@ module _ {T : Type 0} where
   lower None row = Some row
   lower (Some best) row = if is_gt (key_cmp best.key row.key) then Some row else Some best
 
-  -- the best so far, and the first row of a bucket
+  -- the best so far, and the first of a bucket's rows
   abbrev pub lower_first : Option (Row T) → List (RingKey × Row T) → Option (Row T)
   lower_first best [] = best
   lower_first best (e ∷ es) = lower best e.1
 
+  abbrev pub first_in : Option (Row T) → BTreeMap RingKey (Row T) → Option (Row T)
+  first_in best bucket = lower_first best bucket.entries
+
   -- the best of those so far and of all buckets
   abbrev pub first_of : Option (Row T) → List (BTreeMap RingKey (Row T)) → Option (Row T)
-  first_of best buckets = fold (λ x bucket. lower_first x bucket.entries) best buckets
+  first_of best buckets = fold first_in best buckets

@@ -1,5 +1,5 @@
 -- The rows by their serials.
-use Rattle.std.specs.Prelude.{◌≡◌, ℕ, ◌<◌, ◌≤◌, List, Option, Some}
+use Rattle.std.specs.Prelude.{◌≡◌, ℕ, ◌<◌, ◌≤◌, List, Some}
 use Rattle.argo_base.specs.declared.ring_key.RingKey.{RingKey}
 use Rattle.ring_table.specs.declared.row.Row.{Row}
 use Rattle.ring_table.specs.Rows.{Held, held_of, held_at}

@@ -68,7 +68,10 @@ fn serial_after(table: &Table<u32>, serial: u64) -> Option<u64> {
 fn rows_that_are_reached_are_counted(rt: HostRuntime) -> Result<(), Fail> {
     let mut table = Table::new(rt.alloc());
     assert_eq!(rt; put(&mut table, 7, 3, 1, 10), None);
-    assert_eq!(rt; reach_and_take::<Brand>(&mut table, Blank::new(1)), Some(12));
+    assert_eq!(rt;
+        reach_and_take::<Brand>(&mut table, Blank::new(1)),
+        Some(12)
+    );
     assert_eq!(rt; table.count(), 0);
     Ok(())
 }

@@ -4,8 +4,7 @@
 //! single partner the domain is, so that its end finds them without a scan. It stands on argo_base's sets of rings.
 #![tactic(auto)]
 
-ghost use Rattle.std.specs.Prelude.{◌≡◌, ◌∷◌, ◌==◌, true, false, [], length, IfSome, OnOk, OnErr};
-ghost use Rattle.std.specs.Option.{MatchOption};
+ghost use Rattle.std.specs.Prelude.{◌≡◌, ◌∷◌, ◌==◌, true, false, [], length, IfSome, IfNone, OnOk, OnErr};
 ghost use Rattle.std.specs.List.{All};
 ghost use Rattle.std.specs.List.Sorted.{IsStrictlySortedBy};
 ghost use Rattle.std.specs.BTreeMap.{is_at};
@@ -87,7 +86,9 @@ impl SendList {
 
     /// Takes out the least ring, if there is one. It takes no memory.
     pub fn drain_one(&mut self) -> Option<RingId>
-        ensures drained { MatchOption result ((self.old ≡ []) × (self.new ≡ [])) (λ id. self.old ≡ id ∷ self.new) }
+        ensures taken { IfSome result (λ id. self.old ≡ id ∷ self.new) }
+        ensures none { IfNone result (self.old ≡ []) }
+        ensures kept { IfNone result (self.new ≡ self.old) }
         ensures least { IfSome result (λ id. All (IsLtBy id_cmp id) self.new) }
     {
         self.rings.drain_one()

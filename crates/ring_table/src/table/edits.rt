@@ -12,19 +12,17 @@ use std::alloc::Global;
 use std::collections::BTreeMap;
 
 impl<T> Table<T> {
-    ghost use Rattle.std.specs.Prelude.{◌≡◌, option_map};
+    ghost use Rattle.std.specs.Prelude.{◌≡◌};
     ghost use Rattle.std.specs.Option.{option_copied_mut};
     ghost use Rattle.std.specs.Borrow.{sem};
-    ghost use Rattle.std.specs.Map.{remove_entry};
-    ghost use Rattle.std.specs.BTreeMap.{is_at};
-    ghost use Rattle.argo_base.specs.Match.{key_cmp};
-    ghost use Rattle.ring_table.specs.Rows.{held_at};
+    ghost use Rattle.ring_table.specs.Rows.{value_at};
+    ghost use Rattle.ring_table.specs.Edits.{without_row};
     ghost use Rattle.ring_table.specs.Lends.{lends_value};
 
     /// The value of a key, to be written.
     pub fn find_exact_mut(&mut self, key: RingKey) -> Option<&mut T>
         ensures* writes_back { sem 𝓛 (lends_value T.row self.entry key result) }
-        ensures value { option_copied_mut result ≡ option_map (λ h. h.value) (held_at self.old key) }
+        ensures value { option_copied_mut result ≡ value_at self.old key }
     {
         let Some(bucket) = self.buckets.get_mut(bucket_of(key)) else {
             return None;
@@ -37,8 +35,8 @@ impl<T> Table<T> {
 
     /// Takes a key's row out, and gives its value. It takes no memory.
     pub fn remove(&mut self, key: RingKey) -> Option<T>
-        ensures value { result ≡ option_map (λ h. h.value) (held_at self.old key) }
-        ensures rest { self.new ≡ remove_entry (is_at (key_cmp key)) self.old }
+        ensures value { result ≡ value_at self.old key }
+        ensures rest { self.new ≡ without_row self.old key }
     {
         let Some(bucket) = self.buckets.get_mut(bucket_of(key)) else {
             return None;
@@ -53,14 +51,13 @@ impl<T> Table<T> {
 
 impl<T: Drop> Table<T> {
     ghost use Rattle.std.specs.Prelude.{◌≡◌, ◌==◌, None, length, OnOk, OnErr, IfErr};
-    ghost use Rattle.std.specs.BTreeMap.{insert_entry};
-    ghost use Rattle.argo_base.specs.Match.{key_cmp};
-    ghost use Rattle.ring_table.specs.Rows.{held, held_at, most_rows};
+    ghost use Rattle.ring_table.specs.Rows.{held_at, most_rows};
+    ghost use Rattle.ring_table.specs.Edits.{with_row};
 
     /// Puts a row in under a key that has none. The first row makes the buckets.
     pub fn insert(&mut self, key: RingKey, serial: u64, value: T) -> Result<(), InsertFault<T>>
         requires { held_at self.old key ≡ None }
-        ensures ok { OnOk result (self.new ≡ insert_entry key_cmp self.old key (held serial value)) }
+        ensures ok { OnOk result (self.new ≡ with_row self.old key serial value) }
         ensures kept { OnErr result (self.new ≡ self.old) }
         ensures given_back { IfErr result (λ fault. given_back fault ≡ value) }
         ensures full { is_full result ≡ (length self.old == most_rows) }

@@ -7,14 +7,14 @@ use super::{Bucket, Table};
 use crate::Row;
 
 impl<T> Table<T> {
-    ghost use Rattle.std.specs.Option.{MatchOption};
-    ghost use Rattle.std.specs.Prelude.{slice_get, option_map};
+    ghost use Rattle.std.specs.Prelude.{slice_get, option_map, IfSome, IfNone};
     ghost use Rattle.ring_table.specs.Rows.{entry_of};
     ghost use Rattle.ring_table.specs.Serials.{NoneAbove, IsNext};
 
     /// The row with the least serial above: from 0 on, one after another, every row whose serial is not 0.
     pub fn after(&self, serial: u64) -> Option<&Row<T>>
-        ensures { MatchOption result (NoneAbove self.now serial) (λ row. IsNext self.now serial row.now) }
+        ensures some { IfSome result (λ row. IsNext self.now serial row.now) }
+        ensures none { IfNone result (NoneAbove self.now serial) }
     {
         next_of(self.buckets.as_slice(), serial)
     }
@@ -32,14 +32,14 @@ fn first_of<T>(buckets: &[Bucket<T>]) -> Option<&Row<T>>
 {
     let mut best = None;
     for bucket in buckets {
-        best = lower_first(best, bucket);
+        best = first_in(best, bucket);
     }
     best
 }
 
 // The best so far, and the first row of a bucket.
-fn lower_first<'a, T>(best: Option<&'a Row<T>>, bucket: &'a Bucket<T>) -> Option<&'a Row<T>>
-    ensures { option_copied result ≡ scans.lower_first (option_copied best.entry) bucket.now.entries }
+fn first_in<'a, T>(best: Option<&'a Row<T>>, bucket: &'a Bucket<T>) -> Option<&'a Row<T>>
+    ensures { option_copied result ≡ scans.first_in (option_copied best.entry) bucket.now }
 {
     let Some((_, row)) = bucket.first_key_value() else {
         return best;

@@ -1,4 +1,4 @@
-use Rattle.std.proofs.Common.{◌≡◌, ap, sym, ◌∙◌, ◌<◌, length, subst, slice_index_or, slice_set, option_map, is_some, inr, cond}
+use Rattle.std.proofs.Common.{◌≡◌, ap, sym, ◌∙◌, slice_set, option_map, is_some, inr, cond}
 use Rattle.std.specs.Prelude.{Some}
 use Rattle.std.specs.BTreeMap.{is_at}
 use Rattle.std.proofs.lemmas.List.{set-get_or}
@@ -16,14 +16,16 @@ returns-in_default-get_mut g c =
     let bs = c.self.inside.buckets.items in
     let is = c.in-Some.ensures.item.3 in
     let same : rows_in (slice_set bs i c.get_mut-2.follows.lender-at-none) ≡ c.args.self.now =
-    ap (λ b. rows_in (slice_set bs i b)) (c.get_mut-2.follows.holds-at-none ∙ is.1 d) ∙ ap rows_in (set-get_or bs i d) ∙ c.self.view_is in
-    (λ k. inr (same k), record {
-      writes_back = tt;
-      value = sym (ap (λ rows. option_map (λ h. h.value) (held_at rows c.args.key)) (sym c.self.view_is)
-        ∙ ap (option_map (λ h. h.value)) (held_in bs c.self.invariant.buckets c.args.key i d c.bucket_of.ensures.which is.0
-          ∙ ap (λ b. option_map held_of (find b.entries c.args.key)) (sym (is.1 d))
-          ∙ ap (option_map held_of) (sym c.in_default-get_mut.ensures.value)));
-    })
+    ap (λ b. rows_in (slice_set bs i b)) (c.get_mut-2.follows.holds-at-none ∙ is.1 d) ∙ ap rows_in (set-get_or bs i d) ∙ c.self.view_is in (
+      λ k. inr (same k),
+      record {
+        writes_back = tt;
+        value = sym (ap (λ rows. option_map (λ h. h.value) (held_at rows c.args.key)) (sym c.self.view_is)
+            ∙ ap (option_map (λ h. h.value)) (held_in bs c.self.invariant.buckets c.args.key i d c.bucket_of.ensures.which is.0
+            ∙ ap (λ b. option_map held_of (find b.entries c.args.key)) (sym (is.1 d))
+            ∙ ap (option_map held_of) (sym c.in_default-get_mut.ensures.value)));
+      },
+    )
 
 pub invariant_of-self-lent : goal.invariant_of-self-lent
 invariant_of-self-lent g c w =
@@ -47,11 +49,13 @@ returns g c =
     let rows = lent_rows bs c.self.invariant.buckets c.args.key i c.bucket_of.ensures.which is.0 d c.in-Some-get_mut.row.now
     (ap (λ b. find b.entries c.args.key) (sym (is.1 d)) ∙ sym there) c.get_mut-2.follows.lender
     (λ row q. ((c.get_mut-2.follows.holds row).3 (sym (ap is_some there))).0 q ∙ ap (λ b. cond (is_at (key_cmp c.args.key) q) (Some row) (find b.entries q)) (is.1 d))
-    (λ row. (c.get_mut-2.follows.holds row).4) in
-    (lends_as (λ w. rows w ∙ ap (λ all. with_value all c.args.key w) c.self.view_is), record {
-      writes_back = tt;
-      value = sym (ap (λ all. option_map (λ h. h.value) (held_at all c.args.key)) (sym c.self.view_is)
-        ∙ ap (option_map (λ h. h.value)) (held_in bs c.self.invariant.buckets c.args.key i d c.bucket_of.ensures.which is.0
-          ∙ ap (λ b. option_map held_of (find b.entries c.args.key)) (sym (is.1 d))
-          ∙ ap (option_map held_of) (sym there)));
-    })
+    (λ row. (c.get_mut-2.follows.holds row).4) in (
+      lends_as (λ w. rows w ∙ ap (λ all. with_value all c.args.key w) c.self.view_is),
+      record {
+        writes_back = tt;
+        value = sym (ap (λ all. option_map (λ h. h.value) (held_at all c.args.key)) (sym c.self.view_is)
+            ∙ ap (option_map (λ h. h.value)) (held_in bs c.self.invariant.buckets c.args.key i d c.bucket_of.ensures.which is.0
+            ∙ ap (λ b. option_map held_of (find b.entries c.args.key)) (sym (is.1 d))
+            ∙ ap (option_map held_of) (sym there)));
+      },
+    )

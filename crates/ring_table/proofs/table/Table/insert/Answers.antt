@@ -1,10 +1,10 @@
-use Rattle.std.proofs.Common.{◌≡◌, ◌∙◌, ◌<◌, refl, ap, sym, subst, cond, length, arith, slice_index_or}
-use Rattle.std.specs.Prelude.{Some, None}
+use Rattle.std.proofs.Common.{◌∙◌, refl, ap, cond, arith}
+use Rattle.std.specs.Prelude.{Some}
 use Rattle.std.specs.BTreeMap.{is_at, insert_entry}
 use Rattle.std.proofs.lemmas.Bool.Decides.{nat_tests}
 use Rattle.argo_base.specs.Match.{key_cmp}
 use Rattle.ring_table.specs.declared.row.Row.{Row}
-use Rattle.ring_table.specs.Rows.{held, most_rows}
+use Rattle.ring_table.specs.Rows.{held}
 use Rattle.ring_table.proofs.BucketLaws.{find}
 use Rattle.ring_table.proofs.TableLaws.{made_rows, made_table, rows_with, table_with, kept_rows, kept_table}
 use Rattle.ring_table.proofs.table.Table.insert.Goals as goal

@@ -1,5 +1,5 @@
-use Rattle.std.proofs.Common.{ap, sym, ◌∙◌, slice_index_or, option_map, cond}
-use Rattle.std.specs.Prelude.{Option, None}
+use Rattle.std.proofs.Common.{ap, sym, ◌∙◌, option_map, cond}
+use Rattle.std.specs.Prelude.{None}
 use Rattle.std.specs.Map.{remove_entry}
 use Rattle.std.specs.BTreeMap.{is_at}
 use Rattle.argo_base.specs.Match.{key_cmp}
@@ -18,14 +18,14 @@ invariant_of-self-in_default-remove g c =
     (ap (λ b. find b.entries c.args.key) (sym (is.1 d)) ∙ sym c.in_default-remove.ensures.value)
 
 pub returns-in_default-remove-clause-value : goal.returns-in_default-remove-clause-value
-returns-in_default-remove-clause-value g c = 
+returns-in_default-remove-clause-value g c =
     let i = c.bucket_of.result in
     let d = c.in-Some.bucket.now in
     let is = c.in-Some.ensures.item.3 in
     sym (ap (λ rows. option_map (λ h. h.value) (held_at rows c.args.key)) (sym c.self.view_is)
-      ∙ ap (option_map (λ h. h.value)) (held_in c.self.inside.buckets.items c.self.invariant.buckets c.args.key i d c.bucket_of.ensures.which is.0
-        ∙ ap (λ b. option_map held_of (find b.entries c.args.key)) (sym (is.1 d))
-        ∙ ap (option_map held_of) (sym c.in_default-remove.ensures.value)))
+    ∙ ap (option_map (λ h. h.value)) (held_in c.self.inside.buckets.items c.self.invariant.buckets c.args.key i d c.bucket_of.ensures.which is.0
+    ∙ ap (λ b. option_map held_of (find b.entries c.args.key)) (sym (is.1 d))
+    ∙ ap (option_map held_of) (sym c.in_default-remove.ensures.value)))
 
 pub returns-in_default-remove-clause-rest : goal.returns-in_default-remove-clause-rest
 returns-in_default-remove-clause-rest g c =
@@ -60,9 +60,9 @@ returns-clause-value g c =
     let d = c.in-Some.bucket.now in
     let is = c.in-Some.ensures.item.3 in
     sym (ap (λ rows. option_map (λ h. h.value) (held_at rows c.args.key)) (sym c.self.view_is)
-      ∙ ap (option_map (λ h. h.value)) (held_in c.self.inside.buckets.items c.self.invariant.buckets c.args.key i d c.bucket_of.ensures.which is.0
-        ∙ ap (λ b. option_map held_of (find b.entries c.args.key)) (sym (is.1 d))
-        ∙ ap (option_map held_of) (sym c.in-Some-remove.ensures.value)))
+    ∙ ap (option_map (λ h. h.value)) (held_in c.self.inside.buckets.items c.self.invariant.buckets c.args.key i d c.bucket_of.ensures.which is.0
+    ∙ ap (λ b. option_map held_of (find b.entries c.args.key)) (sym (is.1 d))
+    ∙ ap (option_map held_of) (sym c.in-Some-remove.ensures.value)))
 
 pub returns-clause-rest : goal.returns-clause-rest
 returns-clause-rest g c =

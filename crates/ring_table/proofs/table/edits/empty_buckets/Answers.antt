@@ -1,4 +1,4 @@
-use Rattle.std.proofs.Common.{sym, subst, ◌∙◌, ap, length-append, arith, ◌≡◌, ◌+◌, length, ◌++◌, [], ◌∷◌}
+use Rattle.std.proofs.Common.{sym, subst, ◌∙◌, ap, length-append, ◌≡◌, ◌+◌, length, ◌++◌, [], ◌∷◌}
 use Rattle.ring_table.specs.Buckets.{AreEmpty}
 use Rattle.ring_table.proofs.TableLaws.{push_empty}
 use Rattle.ring_table.proofs.table.edits.empty_buckets.Goals as goal
