@@ -1,9 +1,10 @@
 -- Laws of runs.
-use Rattle.std.proofs.Common.{◌≡◌, ℕ, suc, ◌<◌, false, List, [], ◌∷◌, length, fold, slice_get, IsTrue, Option, Some, None, refl, ◌∙◌, arith}
+use Rattle.std.proofs.Common.{◌≡◌, ℕ, suc, ◌<◌, ◌≤◌, false, List, [], ◌∷◌, length, fold, slice_get, IsTrue, Option, Some, None, refl, ◌∙◌, arith}
 use Rattle.std.specs.List.{list_all}
 use Rattle.std.proofs.lemmas.List.{length-set, length-map}
-use Rattle.argo_model.specs.Runs.Script.{Script}
+use Rattle.argo_model.specs.Runs.Script.{Script, is_lawful}
 use Rattle.argo_model.specs.Runs.Run.{Progress, Course, Turn, at_first_line, start, run, step, after_turn, next_turn, is_unfinished, has_lines, is_finished}
+use Rattle.argo_machine.proofs.TestLaws.{both, le_from}
 
 after_turn-sections : (c : Course) (v : ℕ) (t : Option Turn) → length (after_turn c v t).sections ≡ length c.sections
 after_turn-sections c v None = refl
@@ -24,3 +25,14 @@ none_unfinished (p ∷ ps) none =
     let first : has_lines p.left ≡ false = none 0 (omega arith) in
     let rest = none_unfinished ps (λ v below. none (suc v) (omega arith)) in
     rw first rest
+
+-- a lawful script has at most 64 sections
+pub few_sections : (s : Script) → IsTrue (is_lawful s) → length s.sections ≤ 64
+few_sections s lawful =
+    let a = (both _ _ lawful).0 in
+    let b = (both _ _ a).0 in
+    let c = (both _ _ b).1 in
+    let d = both _ _ c in
+    let e = both _ _ d.0 in
+    let f = both _ _ e.0 in
+    le_from (length s.sections) 64 f.0

@@ -1,5 +1,5 @@
 -- Laws of tests: of two numbers, and of two tests at once.
-use Rattle.std.proofs.Common.{◌≡◌, ◌≢◌, ℕ, Bool, true, false, ◌&&◌, ◌==◌, eqb, IsTrue, refl, arith}
+use Rattle.std.proofs.Common.{◌≡◌, ◌≢◌, ℕ, Bool, true, false, ◌&&◌, ◌==◌, eqb, IsTrue, nat_le, ◌≤◌, refl, arith}
 use Rattle.std.proofs.lemmas.Bool.{false≢true}
 use Rattle.std.proofs.lemmas.Bool.Decides.{nat_tests}
 
@@ -22,3 +22,6 @@ pub and_also : (x y : Bool) → IsTrue x → IsTrue y → IsTrue (x && y)
 and_also true true hx hy = refl
 and_also true false hx hy = hy
 and_also false y hx hy = hx
+
+pub le_from : (m n : ℕ) → IsTrue (nat_le m n) → m ≤ n
+le_from m n h = grind (arith, nat_tests)

@@ -1,6 +1,5 @@
 -- Laws of the virtual CPUs at the start, and of how many steps a script may take.
-use Rattle.std.proofs.Common.{◌≡◌, ℕ, zero, suc, slice_get, Some, ◌+◌, ◌*◌, ◌≤◌, Bool, true, false, ◌&&◌, IsTrue, nat_le, List, [], ◌∷◌, ◌++◌, length, map, sum_by, refl, sym, ap, ◌∙◌, subst, arith}
-use Rattle.std.proofs.lemmas.Bool.Decides.{nat_tests}
+use Rattle.std.proofs.Common.{◌≡◌, ℕ, zero, suc, slice_get, Some, ◌+◌, ◌*◌, ◌≤◌, Bool, true, false, ◌&&◌, IsTrue, List, [], ◌∷◌, ◌++◌, length, map, sum_by, refl, sym, ap, ◌∙◌, subst, arith}
 use Rattle.std.proofs.lemmas.List.{map_push}
 use Rattle.std.proofs.lemmas.List.Sums.{sum_by-cons, sum_by_push}
 use Rattle.argo_model.specs.declared.line.Line.{Line}
@@ -11,7 +10,7 @@ use Rattle.vcpu_machine.specs.Steps.{most_steps}
 use Rattle.vcpu_machine.specs.Vcpu.{VcpuAt, StandsAt, left_of}
 use Rattle.argo_machine.specs.Kept.{AllStand}
 use Rattle.argo_machine.specs.Vcpus.{most_of, AreVcpusOf}
-use Rattle.argo_machine.proofs.TestLaws.{both}
+use Rattle.argo_machine.proofs.TestLaws.{both, le_from}
 
 all_stand-push : (xs : List VcpuAt) (ps : List Progress) (x : VcpuAt) (p : Progress) → AllStand xs ps → StandsAt x p → AllStand (xs ++ x ∷ []) (ps ++ p ∷ [])
 all_stand-push [] [] x p all stands = (stands, tt)
@@ -48,9 +47,6 @@ lines_bound (l ∷ ls) = rw (sum_by-cons, sum_by-cons) (omega (arith, line_bound
 sections_bound : (xs : List Section) → sum_by most_of xs ≤ 8700 * sum_by (λ x. length x.lines) xs + sum_by (λ x. sum_by turns_of x.lines) xs
 sections_bound [] = omega arith
 sections_bound (x ∷ xs) = rw (sum_by-cons, sum_by-cons, sum_by-cons) (omega (arith, lines_bound x.lines, sections_bound xs))
-
-le_from : (m n : ℕ) → IsTrue (nat_le m n) → m ≤ n
-le_from m n h = grind (arith, nat_tests)
 
 -- how much a lawful script has at most
 pub lawful_bounds : (s : Script) → IsTrue (is_lawful s)

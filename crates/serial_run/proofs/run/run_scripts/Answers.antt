@@ -1,9 +1,10 @@
-use Rattle.std.proofs.Common.{◌≡◌, ◌∙◌, sym, subst, arith, ℕ, List, length, IsTrue}
+use Rattle.std.proofs.Common.{◌≡◌, ◌≤◌, ◌∙◌, sym, subst, arith, ℕ, List, length, IsTrue}
 use Rattle.std.specs.List.{list_all}
 use Rattle.argo_model.specs.Runs.Script.{Script}
 use Rattle.argo_model.specs.Runs.Run.{run, is_open, is_finished}
 use Rattle.serial_run.specs.Picks.{EachIsPick}
 use Rattle.serial_run.proofs.PickLaws.{all_finished, picked-open, one-more, number-turned, pick-made, ready-of, zero-where, none-left}
+use Rattle.argo_machine.proofs.RunLaws.{few_sections}
 use Rattle.serial_run.proofs.run.run_scripts.Goals as goal
 
 pub step-requires : goal.step-requires
@@ -52,3 +53,11 @@ finish-requires c =
     let none : length c.steps.vcpus.items ≡ 0 = sym c.steps.vcpus.ok.0 ∙ zero-where c.steps.vcpus.len c.steps-test.ensures in
     let P : Script → Type 0 = λ t. IsTrue (list_all is_finished (run t schedule).sections) in
     subst P (sym stood.same) (all_finished (run s schedule) (sym stood.ready ∙ none-left c.steps.vcpus.items none))
+
+pub overflow_cast-count-in-steps : goal.overflow_cast-count-in-steps
+overflow_cast-count-in-steps c =
+    let m = c.scripts.inside in
+    let few = few_sections (record { version = m.version; domains = m.domains; sections = m.parts }) c.scripts.invariant in
+    let P : Script → Type 0 = λ t. length t.sections ≤ 64 in
+    let n = subst P c.scripts.view_is few in
+    omega (arith, c.steps.invariant.counted, n)
