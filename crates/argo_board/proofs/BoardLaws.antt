@@ -1,11 +1,11 @@
 -- A board with one more entry.
-use Rattle.std.proofs.Common.{◌≡◌, ℕ, ◌+◌, ◌-◌, ◌*◌, ◌^◌, ◌<◌, ◌≤◌, List, [], ◌∷◌, ◌++◌, Bool, All, false, length, sum_by, slice_index_or, refl, sym, ap, arith, ◌∙◌}
+use Rattle.std.proofs.Common.{◌≡◌, ℕ, ◌+◌, ◌-◌, ◌<◌, List, [], ◌∷◌, ◌++◌, Bool, false, slice_index_or, refl, arith}
 use Rattle.std.proofs.lemmas.List.{length-append}
 use Rattle.std.proofs.lemmas.List.Elements.{All-push}
 use Rattle.std.proofs.lemmas.List.Sums.{sum_by-append}
-use Rattle.argo_board.specs.Board.{IsBoard, AreReplay}
+use Rattle.argo_board.specs.Board.{IsBoard}
 use Rattle.argo_board.specs.Books.{Amounts, Portion}
-use Rattle.argo_board.specs.Journal.{IsFit, changed, replayed, is_raised, accepted_in, accepted_of, bytes_in, bytes_of}
+use Rattle.argo_board.specs.Journal.{IsFit, changed, replayed, accepted_in, bytes_in}
 use Rattle.argo_board.specs.declared.entry.Entry.{Entry}
 
 -- the last entry changes what those before it left

@@ -4,7 +4,7 @@ use Rattle.argo_base.specs.Limits.{longest_body}
 use Rattle.argo_model.specs.declared.short.Short.{Short}
 use Rattle.argo_model.specs.declared.closing.Totals.{Totals}
 use Rattle.argo_board.specs.Books.{Amounts, Portion, portion}
-use Rattle.argo_board.specs.Journal.{IsFit, is_raised, accepted_in, accepted_of, bytes_in, bytes_of}
+use Rattle.argo_board.specs.Journal.{IsFit, domains, is_raised, accepted_in, accepted_of, bytes_in, bytes_of}
 use Rattle.argo_board.specs.declared.entry.Entry.{Entry}
 
 -- the entries from the first to the last, and whether an append may follow
@@ -40,16 +40,23 @@ most_vcpus = 64
 abbrev pub totals_of : Tally → Totals
 totals_of t = record { steps = t.steps; accepted = t.accepted; bytes = t.bytes }
 
+-- passes that have made no step, of virtual CPU 0, 1 and so on
+abbrev pub AreFresh : List Tally → Type 0
+AreFresh passes =
+    (k : ℕ) (d : Tally) → k < length passes → slice_index_or passes k d ≡ tally k 0 0 0
+
 -- the passes of virtual CPU 0, 1 and so on
 abbrev pub StandInOrder : List Tally → Type 0
-StandInOrder passes = (k : ℕ) (d : Tally) → k < length passes → (slice_index_or passes k d).vcpu ≡ k
+StandInOrder passes =
+    (k : ℕ) (d : Tally) → k < length passes → (slice_index_or passes k d).vcpu ≡ k
 
 -- the flags of all domains are the replay of the entries
 abbrev pub AreReplay : List Bool → List Entry → Type 0
-AreReplay flags entries = (dom : ℕ) → dom < 65536 → slice_index_or flags dom false ≡ is_raised dom entries
+AreReplay flags entries =
+    (dom : ℕ) → dom < domains → slice_index_or flags dom false ≡ is_raised dom entries
 
--- a ledger has a part for each virtual CPU and one more, which the board keeps. All room that is no entry's is left, and the other
--- two books have the totals of the entries
+-- a ledger has a part for each virtual CPU and one more, which the board keeps. All room that is no entry's is left,
+-- and the other two books have the totals of the entries
 pub record IsBoard (parts : ℕ) (entries : List Entry) (flags : List Bool) (books : Amounts) (kept : Portion) : Type 0 where
   pub some : 0 < parts
   pub most : parts ≤ most_vcpus + 1
@@ -61,7 +68,8 @@ pub record IsBoard (parts : ℕ) (entries : List Entry) (flags : List Bool) (boo
   pub fit : All (IsFit (parts - 1)) entries
   pub rest : kept ≡ portion 1 0 0 0
 
--- one part of each ledger: what is left of its room is what the steps left of it, and the other two amounts are the pass's own totals
+-- one part of each ledger: what is left of its room is what the steps left of it, and the other two amounts are the
+-- pass's own totals
 pub record IsPass (parts : ℕ) (is : Tally) (has : Portion) : Type 0 where
   pub own : is.vcpu + 1 < parts
   pub one : has.parts ≡ 1

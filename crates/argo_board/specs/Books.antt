@@ -1,5 +1,5 @@
 -- The three ledgers of a board: of room for entries, of accepted sends and of their bytes.
-use Rattle.std.specs.Prelude.{ℕ}
+use Rattle.std.specs.Prelude.{ℕ, ◌+◌}
 
 -- the totals of the three books
 pub record Amounts : Type 0 where
@@ -19,3 +19,7 @@ pub record Portion : Type 0 where
 
 abbrev pub portion : ℕ → ℕ → ℕ → ℕ → Portion
 portion parts room sends loads = record { parts = parts; room = room; sends = sends; loads = loads }
+
+-- two portions in one hand
+abbrev pub joined : Portion → Portion → Portion
+joined p q = portion (p.parts + q.parts) (p.room + q.room) (p.sends + q.sends) (p.loads + q.loads)

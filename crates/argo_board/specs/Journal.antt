@@ -1,5 +1,5 @@
 -- What the entries of a journal come to: the flags that are set after them, and their totals.
-use Rattle.std.specs.Prelude.{◌≡◌, ℕ, ◌<◌, ◌≤◌, List, [], ◌∷◌, Bool, true, false, ◌||◌, ◌&&◌, not, nat_eq, if◌then◌else◌, sum_by}
+use Rattle.std.specs.Prelude.{◌≡◌, ℕ, ◌<◌, ◌≤◌, List, [], ◌∷◌, Bool, false, ◌||◌, ◌&&◌, not, nat_eq, if◌then◌else◌, slice_index_or, sum_by}
 use Rattle.argo_base.specs.Limits.{longest_body}
 use Rattle.argo_model.specs.declared.short.Short.{Short}
 use Rattle.argo_board.specs.declared.entry.Entry.{Entry}
@@ -16,6 +16,20 @@ abbrev pub changed : ℕ → Bool → FlagChange → Bool
 changed dom set Keep = set
 changed dom set (Raise doms) = set || is_among dom doms
 changed dom set (Clear d) = set && not (nat_eq d dom)
+
+-- how many numbers a domain can have
+abbrev pub domains : ℕ
+domains = 65536
+
+-- of each flag, whether it is set after a change
+abbrev pub AreChanged : List Bool → FlagChange → List Bool → Type 0
+AreChanged before change after =
+    (dom : ℕ) → dom < domains → slice_index_or after dom false ≡ changed dom (slice_index_or before dom false) change
+
+-- those of these domains are set, the others stay
+abbrev pub AreRaised : List Bool → List ℕ → List Bool → Type 0
+AreRaised before doms after =
+    (dom : ℕ) → dom < domains → slice_index_or after dom false ≡ (slice_index_or before dom false || is_among dom doms)
 
 -- the flag of the domain after these entries, in their order
 abbrev pub replayed : ℕ → Bool → List Entry → Bool

@@ -1,6 +1,6 @@
 //! The journal of all steps, the flags of the domains, and the books of the three ledgers.
-ghost use Rattle.std.specs.Prelude.{◌≡◌, ℕ, ◌+◌, ◌-◌, ◌<◌, ◌≤◌, true, [], ◌∷◌, ◌++◌, All, IfOk, OnOk, OnErr, length, map, slice_index_or, sum_by};
-ghost use Rattle.argo_board.specs.Board.{Tally, tally, counted, totals_of, most_steps, most_vcpus, StandInOrder};
+ghost use Rattle.std.specs.Prelude.{◌≡◌, ◌+◌, ◌<◌, ◌≤◌, true, [], ◌∷◌, ◌++◌, All, IfOk, OnOk, OnErr, length, map, sum_by};
+ghost use Rattle.argo_board.specs.Board.{AreFresh, counted, totals_of, most_steps, most_vcpus, StandInOrder};
 ghost use Rattle.argo_board.specs.Journal.{IsFit, IsOutcome, is_raised, accepted_of, bytes_of};
 
 use crate::books::{Books, Shares};
@@ -56,7 +56,7 @@ impl<A: Ledger, B: Ledger, C: Ledger> Board<A, B, C> {
         requires loads { (loads.name ≡ C.name) × (loads.parts ≡ C.parts) }
         ensures entries { IfOk result (λ r. r.0.entries ≡ []) }
         ensures count { IfOk result (λ r. length r.1.items ≡ vcpus) }
-        ensures passes { IfOk result (λ r. (k : ℕ) (d : Tally) → k < vcpus → slice_index_or r.1.items k d ≡ tally k 0 0 0) }
+        ensures passes { IfOk result (λ r. AreFresh r.1.items) }
     {
         let journal = Journal::new(alloc)?;
         let flags = Flags::clear(alloc)?;

@@ -1,6 +1,6 @@
 //! The ledgers of a board: a book of each, and parts of each that stand together.
-ghost use Rattle.std.specs.Prelude.{◌≡◌, ◌+◌, ◌-◌, ◌<◌, ◌≤◌};
-ghost use Rattle.argo_board.specs.Books.{amounts, portion};
+ghost use Rattle.std.specs.Prelude.{◌≡◌, ◌+◌, ◌-◌, ◌<◌};
+ghost use Rattle.argo_board.specs.Books.{amounts, joined, portion};
 
 use std::marker::Model;
 use std::sync::ledger::{Blank, Book, Ledger, Share};
@@ -122,7 +122,7 @@ impl<A: Ledger, B: Ledger, C: Ledger> Shares<A, B, C> {
     }
 
     pub(crate) fn merge(&mut self, other: Self)
-        ensures { self.new ≡ portion (self.old.parts + other.parts) (self.old.room + other.room) (self.old.sends + other.sends) (self.old.loads + other.loads) }
+        ensures { self.new ≡ joined self.old other }
     {
         let Shares { room, sends, loads } = other;
         self.room.merge(room);

@@ -1,6 +1,7 @@
 //! The flags of the domains.
-ghost use Rattle.std.specs.Prelude.{◌≡◌, ℕ, ◌<◌, false, length, IfOk, slice_index_or, ◌||◌, take};
-ghost use Rattle.argo_board.specs.Journal.{changed, is_among};
+ghost use Rattle.std.specs.Prelude.{◌≡◌, false, [], length, IfOk, slice_index_or};
+ghost use Rattle.argo_board.specs.Board.{AreReplay};
+ghost use Rattle.argo_board.specs.Journal.{AreChanged, AreRaised};
 
 use crate::FlagChange;
 use argo_base::{DomId, NoMemory};
@@ -29,7 +30,7 @@ impl Model for Flags {
 impl Flags {
     /// All are clear.
     pub(crate) fn clear(alloc: Global) -> Result<Flags, NoMemory>
-        ensures { IfOk result (λ f. (dom : ℕ) → dom < 65536 → slice_index_or f dom false ≡ false) }
+        ensures { IfOk result (λ f. AreReplay f []) }
     {
         let set = Vec::from_elem(alloc, false, COUNT)?;
         Ok(Flags { set })
@@ -42,7 +43,7 @@ impl Flags {
     }
 
     pub(crate) fn apply(&mut self, change: &FlagChange)
-        ensures { (dom : ℕ) → dom < 65536 → slice_index_or self.new dom false ≡ changed dom (slice_index_or self.old dom false) change.now }
+        ensures { AreChanged self.old change.now self.new }
     {
         match change {
             FlagChange::Keep => {}
@@ -56,7 +57,7 @@ impl Flags {
 fn raise(set: &mut [bool], doms: &[DomId])
     requires { length set.old ≡ 65536 }
     ensures len { length set.new ≡ 65536 }
-    ensures raised { (dom : ℕ) → dom < 65536 → slice_index_or set.new dom false ≡ (slice_index_or set.old dom false || is_among dom doms.now) }
+    ensures raised { AreRaised set.old doms.now set.new }
 {
     for dom in doms {
         set[usize::from(dom.0)] = true;

@@ -1,5 +1,5 @@
 //! What a virtual CPU holds of a board: its number, its own totals, and its part of each ledger.
-ghost use Rattle.std.specs.Prelude.{◌≡◌, ◌+◌, ◌-◌, ◌<◌};
+ghost use Rattle.std.specs.Prelude.{◌≡◌, ◌+◌, ◌<◌};
 ghost use Rattle.argo_board.specs.Board.{tally, counted, most_steps};
 ghost use Rattle.argo_board.specs.Books.{portion};
 ghost use Rattle.argo_board.specs.Journal.{IsOutcome, accepted_in, bytes_in};

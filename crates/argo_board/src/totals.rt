@@ -1,6 +1,6 @@
 //! The passes of a board, as they are made and as they come back.
-ghost use Rattle.std.specs.Prelude.{◌≡◌, ℕ, ◌+◌, ◌*◌, ◌<◌, ◌≤◌, IfOk, length, map, slice_index_or, sum_by};
-ghost use Rattle.argo_board.specs.Board.{Tally, tally, totals_of, most_steps, most_vcpus};
+ghost use Rattle.std.specs.Prelude.{◌≡◌, ◌+◌, ◌*◌, ◌≤◌, IfOk, length, map, sum_by};
+ghost use Rattle.argo_board.specs.Board.{AreFresh, totals_of, most_steps, most_vcpus};
 ghost use Rattle.argo_board.specs.Books.{amounts, portion};
 
 use crate::Pass;
@@ -24,7 +24,7 @@ pub(crate) fn fresh_passes<A: Ledger, B: Ledger, C: Ledger>(
     requires books { books.old ≡ amounts 0 0 0 }
     requires kept { kept.old ≡ portion A.parts 0 0 0 }
     ensures count { IfOk result (λ r. length r.items ≡ vcpus) }
-    ensures fresh { IfOk result (λ r. (k : ℕ) (d : Tally) → k < vcpus → slice_index_or r.items k d ≡ tally k 0 0 0) }
+    ensures fresh { IfOk result (λ r. AreFresh r.items) }
     ensures room { IfOk result (λ r. books.new ≡ amounts (most_steps * vcpus) 0 0) }
     ensures rest { IfOk result (λ r. kept.new ≡ portion 1 0 0 0) }
 {

@@ -1,4 +1,4 @@
-use Rattle.std.proofs.Common.{◌≡◌, ◌<◌, length, ◌∙◌, rules, arith, slice_index_or}
+use Rattle.std.proofs.Common.{◌≡◌, ◌<◌, length, ◌∙◌, rules, slice_index_or}
 use Rattle.argo_board.proofs.FlagLaws.{raise-more}
 use Rattle.argo_board.proofs.flags.raise.Goals as goal
 

@@ -1,4 +1,4 @@
-use Rattle.std.proofs.Common.{◌≡◌, ℕ, ◌+◌, ◌-◌, ◌*◌, ◌<◌, length, slice_index_or}
+use Rattle.std.proofs.Common.{◌≡◌, ℕ, ◌-◌, ◌*◌, ◌<◌, length, slice_index_or}
 use Rattle.argo_board.specs.Board.{Tally, tally, most_steps}
 use Rattle.argo_board.specs.Books.{amounts, portion}
 use Rattle.argo_board.proofs.totals.fresh_passes.Given as goal

@@ -1,4 +1,4 @@
-use Rattle.std.proofs.Common.{◌<◌, ◌-◌, ◌+◌, ◌≡◌, arith}
+use Rattle.std.proofs.Common.{◌<◌, ◌-◌, arith}
 use Rattle.argo_board.proofs.BoardLaws.{board-more}
 use Rattle.argo_board.proofs.board.Board.append.Goals as goal
 

@@ -1,4 +1,4 @@
-use Rattle.std.proofs.Common.{◌≡◌, ℕ, ◌<◌, false, slice_index_or, replicate, ◌∙◌, ap, List, Bool}
+use Rattle.std.proofs.Common.{false, slice_index_or, ◌∙◌, ap, List, Bool}
 use Rattle.std.proofs.lemmas.List.{get_or-replicate}
 use Rattle.argo_board.proofs.flags.Flags.clear.Goals as goal
 

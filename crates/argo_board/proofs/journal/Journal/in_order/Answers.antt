@@ -1,4 +1,3 @@
-use Rattle.std.proofs.Common.{◌≡◌, ◌++◌, ◌∷◌, [], ◌∙◌, rules}
 use Rattle.argo_board.proofs.SegmentLaws.{gather-more}
 use Rattle.argo_board.proofs.journal.Journal.in_order.Goals as goal
 
