@@ -1,5 +1,5 @@
 -- How far a line is, as the machine keeps it in place of all the line's outcomes.
-use Rattle.std.specs.Prelude.{◌≡◌, ℕ, ◌+◌, ◌-◌, min, ◌<◌, ◌≤◌, Bool, true, false, List, length, IsTrue, Option, Some, None, vec_len, vec_capacity}
+use Rattle.std.specs.Prelude.{◌≡◌, ℕ, ◌+◌, ◌-◌, min, ◌<◌, ◌≤◌, Bool, true, false, List, ◌∷◌, length, IsTrue, Option, Some, None, vec_len, vec_capacity}
 use Rattle.vcpu_machine.specs.declared.cursor.Cursor.{Cursor}
 use Rattle.vcpu_machine.specs.Cursor.{pieces_left, IsSound}
 use Rattle.vcpu_machine.specs.declared.phase.Phase.{Phase}
@@ -15,7 +15,7 @@ use Rattle.argo_model.specs.declared.reply.Reply.{Reply}
 use Rattle.argo_model.specs.Rules.Outcomes.{can_have}
 use Rattle.argo_model.specs.Runs.Script.{is_vcpu_line, is_control_line}
 use Rattle.vcpu_machine.specs.Ranges.{last_of, collect}
-use Rattle.argo_model.specs.Programs.Program.{Next, Do, Say, Rests, ask, put_all}
+use Rattle.argo_model.specs.Programs.Program.{Next, Do, Say, Rests, ask, put_all, program}
 use Rattle.vcpu_machine.specs.Reader.{after_read, after_fault, HasSize, IsReader, most_after}
 use Rattle.vcpu_machine.specs.Text.{text_of, after_put, if_not_put, IsText, most_after_put}
 use Rattle.vcpu_machine.specs.Question.{action_of, answered_by, IsQuestion, most_after_answer}
@@ -83,6 +83,14 @@ pub record GoesOnAlike (line : Line) (old new : Phase) : Type 0 where
 abbrev pub fed_to : Line → Phase → Option Reply → Rests
 fed_to line phase None os = rest_of line phase os
 fed_to line phase (Some reply) os = Say reply
+
+-- the new phase, or the reply, is what follows the outcome
+abbrev pub Feeds : Line → Phase → Outcome → Option Reply → Phase → Type 0
+Feeds line old o reply new = (os : List Outcome) → rest_of line old (o ∷ os) ≡ fed_to line new reply os
+
+-- the phase stands for the whole line
+abbrev pub StandsForAll : Actor → Line → Phase → Type 0
+StandsForAll actor line phase = (os : List Outcome) → program actor line os ≡ rest_of line phase os
 
 -- a line that the actor's section may have
 abbrev pub is_line_for : Actor → Line → Bool

@@ -1,15 +1,17 @@
 -- One outcome of a range that is put or fetched piece by piece.
-use Rattle.std.specs.Prelude.{◌≡◌, ℕ, ◌-◌, ◌<◌, ◌≤◌, min, List, [], ◌∷◌, ◌++◌, length, drop, ◌+◌, ◌==◌, if◌then◌else◌}
+use Rattle.std.specs.Prelude.{◌≡◌, ℕ, ◌-◌, ◌<◌, ◌≤◌, min, List, [], ◌∷◌, ◌++◌, length, drop, ◌+◌, ◌==◌, if◌then◌else◌, vec_len, vec_capacity, Vec}
+use Rattle.std.specs.declared.alloc.Global.{Global}
 use Rattle.argo_base.specs.declared.piece.Piece.{Piece}
 use Rattle.vcpu_machine.specs.declared.cursor.Cursor.{Cursor}
 use Rattle.vcpu_machine.specs.declared.ranges.Moved.{Moved}
 use Rattle.vcpu_machine.specs.declared.ranges.Moved.TheVariants.{More, Whole, Failed, Ended}
 use Rattle.argo_model.specs.declared.reply.Reply.TheVariants.{Gone}
+use Rattle.argo_model.specs.declared.action.Action.{Action}
 use Rattle.argo_model.specs.declared.action.Action.TheVariants.{Fetch}
 use Rattle.argo_model.specs.declared.action.Outcome.{Outcome}
 use Rattle.argo_model.specs.declared.action.Outcome.TheVariants.{Bytes}
 use Rattle.vcpu_machine.specs.Cursor.{pieces_left, IsSound}
-use Rattle.argo_model.specs.Programs.Program.{Next, Say, Rests, ask, put_all}
+use Rattle.argo_model.specs.Programs.Program.{Next, Do, Say, Rests, ask, put_all}
 
 -- the last n of the bytes
 abbrev pub last_of : ℕ → List ℕ → List ℕ
@@ -26,6 +28,18 @@ abbrev pub collect : List Piece → List ℕ → Rests → (List ℕ → Rests) 
 collect [] got failed k os = k got os
 collect (p ∷ ps) got failed k os =
     ask (Fetch p.page p.off p.n) (if_collected failed (λ bs os. collect ps (got ++ bs) failed k os)) os
+
+-- this is the fetch of the first piece of a range, whatever comes after it
+abbrev pub FetchesFirst : Cursor → Action → Type 0
+FetchesFirst c a = (got : List ℕ) (failed : Rests) (k : List ℕ → Rests) → collect (pieces_left c) got failed k [] ≡ Do a
+
+-- and this is the put of the first piece, of the last of the bytes
+abbrev pub PutsFirst : Cursor → List ℕ → Action → Type 0
+PutsFirst c bytes a = (failed : Next) (k : Rests) → put_all (pieces_left c) (last_of c.left bytes) failed k [] ≡ Do a
+
+-- the bytes of the first piece have their room
+abbrev pub HasRoomFor : Cursor → Vec ℕ Global → Type 0
+HasRoomFor c got = vec_len got + min c.left (4096 - c.off) ≤ vec_capacity got
 
 -- what follows: the rest of the range, what comes after the whole range, the failure, or the end of the caller
 abbrev pub moved_to : Moved → Next → Next → Next → Next
@@ -47,6 +61,9 @@ IsCounted More old_got old_left new_got new_left = new_got + new_left ≡ old_go
 IsCounted Whole old_got old_left new_got new_left = new_got ≡ old_got + old_left
 IsCounted Failed old_got old_left new_got new_left = Unit {0}
 IsCounted Ended old_got old_left new_got new_left = Unit {0}
+
+abbrev pub CountsBytes : Moved → Cursor → List ℕ → Cursor → List ℕ → Type 0
+CountsBytes moved old old_got new new_got = IsCounted moved (length old_got) old.left (length new_got) new.left
 
 -- the bytes of an outcome are those of the first piece
 abbrev pub GivesFirst : Cursor → Outcome → Type 0

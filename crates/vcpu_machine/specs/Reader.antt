@@ -1,5 +1,5 @@
 -- What follows a range that is fetched.
-use Rattle.std.specs.Prelude.{◌≡◌, ℕ, List}
+use Rattle.std.specs.Prelude.{◌≡◌, ℕ, ◌+◌, List, length}
 use Rattle.argo_base.specs.declared.errno.Errno.TheVariants.{Fault as efault}
 use Rattle.argo_base.specs.declared.piece.Piece.{Piece}
 use Rattle.argo_model.specs.declared.action.Outcome.{Outcome}
@@ -41,6 +41,10 @@ HasSize n (Recv r) = HasRecvSize n r
 abbrev pub KeepsUse : Reader → List ℕ → List ℕ → Type 0
 KeepsUse reader old new =
     (ps : List Piece) (failed : Rests) (os : List Outcome) → collect ps new failed (after_read reader) os ≡ collect ps old failed (after_read reader) os
+
+-- whatever comes behind them, there are as many bytes as are wanted
+abbrev pub KeepsSize : Reader → List ℕ → List ℕ → Type 0
+KeepsSize reader old new = (n : ℕ) → HasSize (length old + n) reader → HasSize (length new + n) reader
 
 -- the parts of the reader are as they must be
 abbrev pub IsReader : Reader → Type 0

@@ -11,7 +11,7 @@ use Rattle.vcpu_machine.specs.declared.reads.RecvRead.TheVariants.{Rx, Tx, Slots
 use Rattle.argo_model.specs.declared.reply.Reply.TheVariants.{Msg, Fault}
 use Rattle.vcpu_machine.specs.Cursor.{pieces_left, IsSound}
 use Rattle.argo_model.specs.Programs.Asks.{Say, Rests, fetch_all, put_all}
-use Rattle.argo_model.specs.Programs.Recv.{recv_words, recv_head}
+use Rattle.argo_model.specs.Programs.Recv.{recv_words, recv_head, take_slots}
 
 -- the length in a header counts the header, and the message ends at the tx word or before it
 abbrev pub is_message_size : ℕ → ℕ → ℕ → ℕ → Bool
@@ -45,6 +45,10 @@ abbrev pub IsTaking : Taking → Type 0
 IsTaking (Head r rx tx) = IsRing r × (rx < r.len) × (tx < r.len)
 IsTaking (Body r word h) = IsRing r
 
+-- slot bytes of the ring from a place on, and what follows them
+abbrev pub slots_of : OwnRing → ℕ → ℕ → Taking → Rests
+slots_of r at n t = take_slots (ring_at r) r.len at n (taken t)
+
 -- how many actions follow at most: a body has at most 4,100 pieces, and the rx word two
 abbrev pub most_after_taking : Taking → ℕ
 most_after_taking (Head r rx tx) = 4102
@@ -61,6 +65,10 @@ abbrev pub HasRecvSize : ℕ → RecvRead → Type 0
 HasRecvSize n (Rx r) = n ≡ 4
 HasRecvSize n (Tx r rx) = n ≡ 4
 HasRecvSize n (Slots later t) = HasTakingSize (n + later.left) t
+
+-- whatever comes behind them, there are as many bytes as are wanted
+abbrev pub KeepsRecvSize : RecvRead → List ℕ → List ℕ → Type 0
+KeepsRecvSize read old new = (n : ℕ) → HasRecvSize (length old + n) read → HasRecvSize (length new + n) read
 
 -- the parts of what is read are as they must be
 abbrev pub IsRecvRead : RecvRead → Type 0

@@ -72,11 +72,23 @@ pub record IsGather (g : Gather) : Type 0 where
   pub later_is : g.later ≡ bytes_of (iovs_left g)
   pub later_within : g.later ≤ g.size
 
+-- what is left of a gather that got these bytes so far
+abbrev pub gather_on : Gather → List ℕ → Rests
+gather_on g got = gather (gathered_pieces (iovs_left g)) got g.size (deliver_to g.address)
+
+-- how many actions that is at most
+abbrev pub gather_left : Gather → ℕ
+gather_left g = length (gathered_pieces (iovs_left g)) + 1
+
+-- iovs are judged, and the verdict on them is followed
+abbrev pub judge_iovs : Address → List Iov → Rests
+judge_iovs a iovs = send_judged_to a iovs (verdict_of iovs)
+
 -- what follows the bytes
 abbrev pub after_send_read : SendRead → List ℕ → Rests
 after_send_read (Head caller iovs count kind) addr os = send_head caller iovs count kind addr os
-after_send_read (Iovs count a) list os = send_judged_to a (iovs_at list count) (verdict_of (iovs_at list count)) os
-after_send_read (Body g) got os = gather (gathered_pieces (iovs_left g)) got g.size (deliver_to g.address) os
+after_send_read (Iovs count a) list os = judge_iovs a (iovs_at list count) os
+after_send_read (Body g) got os = gather_on g got os
 
 -- what follows a page that is not there: a refusal, but a gather is delivered as one that met a fault
 abbrev pub after_send_fault : SendRead → Rests
@@ -100,4 +112,4 @@ IsSendRead (Body g) = IsGather g
 abbrev pub most_after_send : SendRead → ℕ
 most_after_send (Head caller iovs count kind) = 4115
 most_after_send (Iovs count a) = 4112
-most_after_send (Body g) = length (gathered_pieces (iovs_left g)) + 1
+most_after_send (Body g) = gather_left g

@@ -8,7 +8,11 @@ use Rattle.argo_model.specs.declared.reply.Reply.{Reply}
 use Rattle.argo_model.specs.declared.scripts.Actor.{Actor}
 use Rattle.argo_model.specs.declared.scripts.Actor.TheVariants.{Vcpu, Control}
 use Rattle.argo_model.specs.Programs.Program.{Next, Do, Say, Rests, program}
+use Rattle.argo_model.specs.declared.closing.Totals.{Totals}
+use Rattle.argo_model.specs.declared.short.Short.{Short}
+use Rattle.argo_model.specs.Rules.Access.{counted_at}
 use Rattle.argo_model.specs.Rules.Fit.{needs_no_caller}
+use Rattle.argo_model.specs.Rules.Shorts.{short_of}
 use Rattle.argo_model.specs.Rules.State.{State}
 use Rattle.argo_model.specs.Runs.Run.{Progress, Turn, turn, at_first_line}
 use Rattle.argo_model.specs.Runs.Script.{Section}
@@ -94,6 +98,14 @@ pub record TakesTurn (before : Option State) (old : VcpuAt) (o : Outcome) (reply
   pub done : IfSome reply (λ r. new.done ≡ old.done + 1)
   pub nearer : left_of new < left_of old
   pub turns : (s : State) → before ≡ Some s → (p : Progress) → StandsAt old p → (t : Turn) × (turn s p ≡ Some t) × (t.line ≡ old.done + 1) × (t.outcome ≡ o) × (t.reply ≡ reply) × (after ≡ Some t.state) × StandsAt new t.progress
+
+-- a turn, with its outcome in short
+abbrev pub TakesStep : Option State → VcpuAt → Short × Option Reply → Option State → VcpuAt → Type 0
+TakesStep before old r after new = (o : Outcome) × (r.0 ≡ short_of o) × TakesTurn before old o r.1 after new
+
+-- the totals count an action of section v with this outcome
+abbrev pub CountsIn : List Totals → ℕ → Short → List Totals → Type 0
+CountsIn before v short after = (o : Outcome) × (short ≡ short_of o) × (after ≡ counted_at before v o)
 
 -- the next line is at its phase; past the last nothing is to come
 abbrev pub IsAtLine : List Line → Phase → Type 0

@@ -2,10 +2,9 @@
 
 ghost use Rattle.std.specs.Prelude.{◌≡◌};
 ghost use Rattle.argo_model.specs.Programs.Asks.{refuse_at_once};
-ghost use Rattle.argo_model.specs.Programs.Program.{op, command_of, caller_of as the_caller};
-ghost use Rattle.argo_model.specs.Programs.Register.{register_ring as registers, unregister_ring as unregisters, has_more as more_than_one};
-ghost use Rattle.argo_model.specs.Programs.Send.{sendv as sends};
-ghost use Rattle.argo_model.specs.Programs.Notify.{notify as notifies};
+ghost use Rattle.argo_model.specs.Programs.Program.{caller_of as the_caller};
+ghost use Rattle.argo_model.specs.Programs.Register.{has_more as more_than_one};
+ghost use Rattle.vcpu_machine.specs.Calls.{op_of, register_of, unregister_of, send_of, notify_of};
 ghost use Rattle.vcpu_machine.specs.Followed.{Leads};
 ghost use Rattle.vcpu_machine.specs.declared.phase.Followed.{Followed};
 
@@ -33,7 +32,7 @@ pub(crate) struct Call {
 impl Call {
     /// The phase at which the call of this command begins.
     pub(crate) fn start(&self, blank: Blank, command: u64) -> Phase
-        ensures { Leads (op self.now.caller (command_of command) self.now.a1 self.now.a2 self.now.a3 self.now.a4) 8700 (Followed.To result) }
+        ensures { Leads (op_of self.now command) 8700 (Followed.To result) }
     {
         match command {
             1 => self.register_ring(blank),
@@ -45,7 +44,7 @@ impl Call {
     }
 
     fn register_ring(&self, blank: Blank) -> Phase
-        ensures { Leads (registers self.now.a1 self.now.a2 self.now.a3 self.now.a4) 13 (Followed.To result) }
+        ensures { Leads (register_of self.now) 13 (Followed.To result) }
     {
         if 1 < self.a4 {
             return refuse(Errno::Inval);
@@ -59,7 +58,7 @@ impl Call {
     }
 
     fn unregister_ring(&self, blank: Blank) -> Phase
-        ensures { Leads (unregisters self.now.a1 self.now.a2 self.now.a3 self.now.a4) 3 (Followed.To result) }
+        ensures { Leads (unregister_of self.now) 3 (Followed.To result) }
     {
         if self.has_more() {
             return refuse(Errno::Inval);
@@ -69,7 +68,7 @@ impl Call {
     }
 
     fn sendv(&self, blank: Blank) -> Phase
-        ensures { Leads (sends self.now.caller self.now.a1 self.now.a2 self.now.a3 self.now.a4) 4117 (Followed.To result) }
+        ensures { Leads (send_of self.now) 4117 (Followed.To result) }
     {
         if (MOST_IOVS as u64) < self.a3 || 0x1_0000_0000 <= self.a4 {
             return refuse(Errno::Inval);
@@ -84,7 +83,7 @@ impl Call {
     }
 
     fn notify(&self) -> Phase
-        ensures { Leads (notifies self.now.a1 self.now.a2 self.now.a3 self.now.a4) 1410 (Followed.To result) }
+        ensures { Leads (notify_of self.now) 1410 (Followed.To result) }
     {
         if self.has_more() {
             return refuse(Errno::Inval);

@@ -4,7 +4,7 @@ ghost use Rattle.std.specs.Prelude.{◌≡◌, ◌+◌, ◌-◌, ◌<◌, ◌≤
 ghost use Rattle.vcpu_machine.specs.Cursor.{pieces_left, IsSound};
 ghost use Rattle.argo_model.specs.Rules.Fit.{is_fit};
 ghost use Rattle.argo_model.specs.Programs.Asks.{Do, Rests};
-ghost use Rattle.vcpu_machine.specs.Ranges.{collect, GivesFirst};
+ghost use Rattle.vcpu_machine.specs.Ranges.{FetchesFirst, HasRoomFor, GivesFirst};
 ghost use Rattle.vcpu_machine.specs.Reader.{HasSize};
 ghost use Rattle.vcpu_machine.specs.Phase.{IsReading};
 ghost use Rattle.vcpu_machine.specs.Followed.{Follows};
@@ -20,7 +20,7 @@ use argo_model::{Action, Outcome, Reply};
 pub(crate) fn fetch_first(rest: Cursor) -> Action
     requires some { 0 < rest.left }
     requires sound { IsSound rest }
-    ensures is { (got : List ℕ) (failed : Rests) (k : List ℕ → Rests) → collect (pieces_left rest) got failed k [] ≡ Do result }
+    ensures is { FetchesFirst rest result }
     ensures fit { IsTrue (is_fit result) }
 {
     let (piece, _) = rest.split_first();
@@ -40,7 +40,7 @@ pub(crate) fn fetched(
     outcome: &Outcome,
 ) -> Followed
     requires at_phase { IsReading rest (length got.items) reader }
-    requires room { vec_len got + min rest.left (4096 - rest.off) ≤ vec_capacity got }
+    requires room { HasRoomFor rest got }
     requires first { GivesFirst rest outcome.now }
     ensures { (line : AnyLine) → Follows line (Phase.Reading rest got reader) outcome.now result }
 {

@@ -119,7 +119,7 @@ pub(crate) fn read_numbers(alloc: Global, bytes: &[u8], count: u32) -> Result<Pa
 
 /// The 12 bytes in which notify answers of one ring.
 pub(crate) fn answer_text(alloc: Global, answer: Answer) -> Result<Vec<u8>, NoMemory>
-    ensures { IfOk result (λ bytes. bytes.items ≡ answer_bytes answer.flags 0 answer.need answer.most) }
+    ensures { IfOk result (λ b. b.items ≡ answer_bytes answer.flags 0 answer.need answer.most) }
 {
     let mut bytes = Vec::with_capacity(alloc, 12)?;
     bytes.extend_from_slice(&answer.flags.to_le_bytes())?;

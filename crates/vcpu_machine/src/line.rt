@@ -17,17 +17,15 @@ use std::alloc::Global;
 use std::mem;
 
 impl Phase {
-    ghost use Rattle.argo_model.specs.Programs.Program.{program};
     ghost use Rattle.vcpu_machine.specs.Steps.{most_steps};
-    ghost use Rattle.vcpu_machine.specs.Phase.{rest_of, takes_none, IsAtPhase, HasRoom, CanFollow, GoesOnAlike, phase_left, fed_to, is_line_for};
+    ghost use Rattle.vcpu_machine.specs.Phase.{rest_of, takes_none, IsAtPhase, HasRoom, CanFollow, GoesOnAlike, phase_left, Feeds, StandsForAll, is_line_for};
     ghost use Rattle.vcpu_machine.specs.Followed.{Follows};
-    ghost use Rattle.argo_model.specs.declared.action.Outcome.{Outcome as AnyOutcome};
 
     /// The phase at which a line of an actor begins.
     pub(crate) fn start(blank: Blank, actor: Actor, line: &Line) -> Phase
         requires { IsTrue (is_line_for actor line.now) }
         ensures at_phase { IsAtPhase line.now result }
-        ensures starts { (os : List AnyOutcome) → program actor line.now os ≡ rest_of line.now result os }
+        ensures starts { StandsForAll actor line.now result }
         ensures few { phase_left result ≤ most_steps line.now }
     {
         match line {
@@ -80,7 +78,7 @@ impl Phase {
         requires at_phase { IsAtPhase line.now self.old }
         requires room { HasRoom self.old }
         requires can { CanFollow (rest_of line.now self.old []) outcome.now }
-        ensures fed { (os : List AnyOutcome) → rest_of line.now self.old (outcome.now ∷ os) ≡ fed_to line.now self.new result os }
+        ensures fed { Feeds line.now self.old outcome.now result self.new }
         ensures at_phase { IfNone result (IsAtPhase line.now self.new) }
         ensures nearer { IfNone result (phase_left self.new < phase_left self.old) }
     {

@@ -3,7 +3,8 @@
 ghost use Rattle.std.specs.Prelude.{◌≡◌, ◌+◌, ◌*◌, ◌<◌, length};
 ghost use Rattle.vcpu_machine.specs.Entries.{places_from, most_of_notify};
 ghost use Rattle.vcpu_machine.specs.Followed.{Leads};
-ghost use Rattle.argo_model.specs.Programs.Notify.{sweep_rings, notify_head, notify_entries, answer_entries, answer_entry};
+ghost use Rattle.vcpu_machine.specs.Notifying.{ask_entry, entry_answered, sweeps};
+ghost use Rattle.argo_model.specs.Programs.Notify.{notify_head, notify_entries, answer_entries};
 
 use crate::blank::Blank;
 use crate::cursor::Cursor;
@@ -18,8 +19,7 @@ use argo_model::{Outcome, Reply};
 const MOST_ENTRIES: u32 = 256;
 
 impl Entry {
-    ghost use Rattle.vcpu_machine.specs.Entries.{entry_at, places_after, IsEntry};
-    ghost use Rattle.argo_model.specs.Programs.Notify.{if_answered};
+    ghost use Rattle.vcpu_machine.specs.Entries.{places_after, IsEntry};
 
     /// Where the call goes after this entry.
     pub(crate) fn next(self, blank: Blank) -> Followed
@@ -33,7 +33,7 @@ impl Entry {
     fn ask(self, entry: &[u8]) -> Followed
         requires ready { IsEntry self }
         requires size { length entry.now ≡ 20 }
-        ensures { Leads (answer_entry (entry_at self) entry.now (answer_entries (places_after self))) (5 * self.later + 3) result }
+        ensures { Leads (ask_entry self entry.now) (5 * self.later + 3) result }
     {
         let asked = ring_data_entry(entry);
         if asked.ring.pad != 0 || asked.pad != 0 {
@@ -50,7 +50,7 @@ impl Entry {
     /// Where the call goes when it was asked for room.
     pub(crate) fn answered(self, blank: Blank, outcome: &Outcome) -> Followed
         requires { IsEntry self }
-        ensures { Leads (if_answered (entry_at self) (answer_entries (places_after self)) outcome.now) (5 * self.later + 2) result }
+        ensures { Leads (entry_answered self outcome.now) (5 * self.later + 2) result }
     {
         match outcome {
             Outcome::Answer(answer) => Followed::To(Phase::Writing {
@@ -84,7 +84,7 @@ impl NotifyRead {
 
 /// Where a notify goes that has so many sweeps to come, of the rings after a serial.
 pub(crate) fn sweep(blank: Blank, base: u64, after: u64, count: u32) -> Followed
-    ensures { Leads (sweep_rings count after (notify_entries base)) (count + most_of_notify) result }
+    ensures { Leads (sweeps base count after) (count + most_of_notify) result }
 {
     if count == 0 {
         return begin(blank, base);

@@ -5,7 +5,7 @@ ghost use Rattle.argo_model.specs.Rules.Fit.{is_fit};
 ghost use Rattle.argo_model.specs.Programs.Asks.{Do, say_done};
 ghost use Rattle.argo_model.specs.Programs.Send.{say_accepted};
 ghost use Rattle.argo_model.specs.Programs.Program.{if_flag, await};
-ghost use Rattle.argo_model.specs.Programs.Notify.{if_swept, sweep_rings, notify_entries};
+ghost use Rattle.vcpu_machine.specs.Notifying.{swept_on};
 ghost use Rattle.vcpu_machine.specs.Entries.{most_of_notify};
 ghost use Rattle.vcpu_machine.specs.Followed.{Leads};
 
@@ -148,7 +148,7 @@ fn delivered(outcome: &Outcome) -> Followed
 
 // After a sweep, with so many to come.
 fn swept(blank: Blank, outcome: &Outcome, base: u64, later: u32) -> Followed
-    ensures { Leads (if_swept (λ serial. sweep_rings later serial (notify_entries base)) (notify_entries base) outcome.now) (later + most_of_notify) result }
+    ensures { Leads (swept_on base later outcome.now) (later + most_of_notify) result }
 {
     match outcome {
         Outcome::Swept(serial) => notify::sweep(blank, base, *serial, later),

@@ -2,7 +2,7 @@
 
 ghost use Rattle.std.specs.Prelude.{◌≡◌, ◌+◌, ◌-◌, ◌<◌, ◌≤◌, min, length, vec_len, vec_capacity};
 ghost use Rattle.vcpu_machine.specs.Cursor.{IsSound, pieces_left};
-ghost use Rattle.vcpu_machine.specs.Ranges.{Advances, PutMoves, FetchMoves, IsNearer, IsCounted, GivesFirst};
+ghost use Rattle.vcpu_machine.specs.Ranges.{Advances, PutMoves, FetchMoves, IsNearer, CountsBytes, HasRoomFor, GivesFirst};
 
 use crate::cursor::Cursor;
 use argo_model::Outcome;
@@ -38,11 +38,11 @@ pub(crate) fn put_moved(rest: &mut Cursor, outcome: &Outcome) -> Moved
 pub(crate) fn fetch_moved(rest: &mut Cursor, got: &mut Vec<u8>, outcome: &Outcome) -> Moved
     requires some { 0 < rest.old.left }
     requires sound { IsSound rest.old }
-    requires room { vec_len got.old + min rest.old.left (4096 - rest.old.off) ≤ vec_capacity got.old }
+    requires room { HasRoomFor rest.old got.old }
     requires first { GivesFirst rest.old outcome.now }
     ensures moves { FetchMoves rest.old got.old.items outcome.now result rest.new got.new.items }
     ensures nearer { IsNearer result rest.old rest.new }
-    ensures counted { IsCounted result (length got.old.items) rest.old.left (length got.new.items) rest.new.left }
+    ensures counted { CountsBytes result rest.old got.old.items rest.new got.new.items }
 {
     match outcome {
         Outcome::Bytes(bytes) => {

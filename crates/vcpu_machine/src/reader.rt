@@ -9,7 +9,7 @@ use argo_base::{Bytes, Errno};
 use argo_model::Reply;
 
 impl Reader {
-    ghost use Rattle.vcpu_machine.specs.Reader.{after_read, after_fault, HasSize, KeepsUse, IsReader, most_after};
+    ghost use Rattle.vcpu_machine.specs.Reader.{after_read, after_fault, HasSize, KeepsUse, KeepsSize, IsReader, most_after};
     ghost use Rattle.vcpu_machine.specs.Followed.{Leads};
 
     /// The room that a range takes of which so many bytes are left, with the ranges that follow it.
@@ -26,7 +26,7 @@ impl Reader {
     /// Drops bytes that the line has no use for.
     pub(crate) fn trim(&self, got: &mut Vec<u8>)
         ensures same { KeepsUse self.now got.old.items got.new.items }
-        ensures size { (n : ℕ) → HasSize (length got.old.items + n) self.now → HasSize (length got.new.items + n) self.now }
+        ensures size { KeepsSize self.now got.old.items got.new.items }
     {
         if let Reader::Recv(read) = self {
             read.trim(got);

@@ -1,8 +1,8 @@
 //! The guest's library takes a message from a ring of its own.
 
 ghost use Rattle.std.specs.Prelude.{◌≡◌, ℕ, ◌+◌, min, ◌*◌, ◌/◌, ◌%◌, ◌<◌, ◌≤◌, length, IsTrue};
-ghost use Rattle.argo_model.specs.Programs.Recv.{recv, recv_words, recv_head, take_slots};
-ghost use Rattle.vcpu_machine.specs.Receiving.{is_message_size, received_by, taken, IsRing, IsTaking, HasTakingSize, most_after_taking};
+ghost use Rattle.argo_model.specs.Programs.Recv.{recv, recv_words, recv_head};
+ghost use Rattle.vcpu_machine.specs.Receiving.{is_message_size, received_by, slots_of, taken, IsRing, IsTaking, HasTakingSize, most_after_taking};
 ghost use Rattle.vcpu_machine.specs.Followed.{Leads};
 ghost use Rattle.vcpu_machine.specs.declared.phase.Followed.{Followed};
 
@@ -20,7 +20,7 @@ const SHOWN_BYTES: usize = 64;
 
 impl RecvRead {
     ghost use Rattle.vcpu_machine.specs.Reader.{KeepsUse};
-    ghost use Rattle.vcpu_machine.specs.Receiving.{after_recv_read, HasRecvSize, IsRecvRead, most_after_recv};
+    ghost use Rattle.vcpu_machine.specs.Receiving.{after_recv_read, HasRecvSize, KeepsRecvSize, IsRecvRead, most_after_recv};
 
     /// The room that a range takes of which so many bytes are left. A body is dropped piece by piece.
     pub(crate) fn room(&self, left: u32) -> usize
@@ -38,7 +38,7 @@ impl RecvRead {
     /// Drops bytes that the recv has no use for: those of a body that no reply shows.
     pub(crate) fn trim(&self, got: &mut Vec<u8>)
         ensures same { KeepsUse (Reader.Recv self.now) got.old.items got.new.items }
-        ensures size { (n : ℕ) → HasRecvSize (length got.old.items + n) self.now → HasRecvSize (length got.new.items + n) self.now }
+        ensures size { KeepsRecvSize self.now got.old.items got.new.items }
     {
         let RecvRead::Slots { taking, .. } = self else {
             return;
@@ -160,7 +160,7 @@ impl OwnRing {
         requires within { n ≤ self.len }
         requires size { HasTakingSize n taking }
         requires ready { IsTaking taking }
-        ensures { Leads (take_slots (self.page * 4096) self.len at n (taken taking)) (n / 4096 + 4 + most_after_taking taking) result }
+        ensures { Leads (slots_of self at n taking) (n / 4096 + 4 + most_after_taking taking) result }
     {
         let first = n.min(self.len - at);
         let places = self.address() + 64;

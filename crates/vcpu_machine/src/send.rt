@@ -1,10 +1,10 @@
 //! The call sendv.
 
 ghost use Rattle.std.specs.Prelude.{◌≡◌, ◌+◌, ◌*◌, ◌≤◌, length, take, IsTrue};
-ghost use Rattle.argo_base.specs.Iovs.{iov_at, iovs_at, verdict_of as judge, gathered_pieces};
+ghost use Rattle.argo_base.specs.Iovs.{iov_at, iovs_at};
 ghost use Rattle.argo_model.specs.Rules.Fit.{is_fit_load};
-ghost use Rattle.argo_model.specs.Programs.Send.{send_head, gather as gathers};
-ghost use Rattle.vcpu_machine.specs.Sending.{clear_pads, own_source, deliver_to, send_judged_to, IsNextBuffer};
+ghost use Rattle.argo_model.specs.Programs.Send.{send_head};
+ghost use Rattle.vcpu_machine.specs.Sending.{clear_pads, own_source, deliver_to, judge_iovs, IsNextBuffer};
 ghost use Rattle.vcpu_machine.specs.Followed.{Leads};
 
 use crate::blank::Blank;
@@ -76,13 +76,13 @@ impl SendRead {
 }
 
 impl Gather {
-    ghost use Rattle.vcpu_machine.specs.Sending.{IsGather, IsFirstBuffer, iovs_left};
+    ghost use Rattle.vcpu_machine.specs.Sending.{IsGather, IsFirstBuffer, gather_on, gather_left};
 
     // Where the gather goes with what it got so far.
     fn go_on(self, got: Vec<u8>) -> Followed
         requires ready { IsGather self }
         requires size { length got.items + self.later ≡ self.size }
-        ensures { Leads (gathers (gathered_pieces (iovs_left self)) got.items self.size (deliver_to self.address)) (length (gathered_pieces (iovs_left self)) + 1) result }
+        ensures { Leads (gather_on self got.items) (gather_left self) result }
     {
         let (iovs, _) = self.iovs.split_at(self.count);
         let Some((place, iov)) = next_buffer(iovs, self.next) else {
@@ -96,7 +96,7 @@ impl Gather {
         requires ready { IsGather self }
         requires first { IsFirstBuffer (take self.count self.iovs) self.next place iov }
         requires size { length got.items + self.later ≡ self.size }
-        ensures { Leads (gathers (gathered_pieces (iovs_left self)) got.items self.size (deliver_to self.address)) (length (gathered_pieces (iovs_left self)) + 1) result }
+        ensures { Leads (gather_on self got.items) (gather_left self) result }
     {
         let rest = Cursor::over(iov.hnd, iov.len);
         let gather = Gather {
@@ -168,7 +168,7 @@ fn has_own_source(caller: DomId, addr: &SendAddr) -> bool
 fn judged(blank: Blank, list: Vec<u8>, count: u32, address: Address) -> Followed
     requires size { length list.items ≡ 16 * count }
     requires few { count ≤ 8 }
-    ensures { Leads (send_judged_to address (iovs_at list.items count) (judge (iovs_at list.items count))) 4112 result }
+    ensures { Leads (judge_iovs address (iovs_at list.items count)) 4112 result }
 {
     let iovs = read_iovs(list.as_slice(), count as usize);
     let (given, _) = iovs.split_at(count as usize);

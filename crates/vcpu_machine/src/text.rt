@@ -4,7 +4,7 @@ ghost use Rattle.std.specs.Prelude.{◌≡◌, ◌<◌, ◌≤◌, [], length, I
 ghost use Rattle.vcpu_machine.specs.Cursor.{pieces_left, IsSound};
 ghost use Rattle.argo_model.specs.Rules.Fit.{is_fit};
 ghost use Rattle.argo_model.specs.Programs.Asks.{Say, Do, Next, Rests, put_all};
-ghost use Rattle.vcpu_machine.specs.Ranges.{last_of};
+ghost use Rattle.vcpu_machine.specs.Ranges.{PutsFirst};
 ghost use Rattle.vcpu_machine.specs.Text.{stored_by};
 
 use crate::blank::Blank;
@@ -101,7 +101,7 @@ fn put_last(alloc: Global, rest: Cursor, bytes: &[u8]) -> Result<Action, NoMemor
     requires some { 0 < rest.left }
     requires sound { IsSound rest }
     requires size { rest.left ≤ length bytes.now }
-    ensures is { IfOk result (λ a. (failed : Next) (k : Rests) → put_all (pieces_left rest) (last_of rest.left bytes.now) failed k [] ≡ Do a) }
+    ensures is { IfOk result (PutsFirst rest bytes.now) }
     ensures fit { IfOk result (λ a. IsTrue (is_fit a)) }
 {
     let (piece, _) = rest.split_first();

@@ -3,12 +3,10 @@
 ghost use Rattle.std.specs.Prelude.{◌≡◌, ◌<◌, ◌≤◌, ◌↔◌, ◌∷◌, [], Some, length, drop, sum_by, slice_get, true, IsTrue, IfOk, IsOk, OnOk, OnErr};
 ghost use Rattle.argo_model.specs.Rules.Access.{has_steps_left, counted_at};
 ghost use Rattle.argo_model.specs.Rules.Fit.{is_fit_for};
-ghost use Rattle.argo_model.specs.Rules.Shorts.{short_of as the_short};
 ghost use Rattle.argo_model.specs.Programs.Program.{Do};
 ghost use Rattle.argo_model.specs.Runs.Script.{turns_of};
-ghost use Rattle.argo_model.specs.declared.action.Outcome.{Outcome as AnyOutcome};
 ghost use Rattle.vcpu_machine.specs.Phase.{CanFollow, takes_none};
-ghost use Rattle.vcpu_machine.specs.Vcpu.{ahead, left_of, Begins, Begun, GoesOn, Fed, TakesTurn};
+ghost use Rattle.vcpu_machine.specs.Vcpu.{ahead, left_of, Begins, Begun, GoesOn, Fed, TakesTurn, TakesStep, CountsIn};
 
 use crate::blank::Blank;
 use crate::copies::copy_of_part;
@@ -153,7 +151,8 @@ impl Vcpu {
         requires unfinished { self.old.done < length self.old.part.lines }
         requires section { slice_get (A.actors a.old) v ≡ Some self.old.part.actor }
         requires few { IsTrue (has_steps_left (A.totals a.old) v) }
-        ensures ok { IfOk result (λ r. (o : AnyOutcome) × (r.0 ≡ the_short o) × TakesTurn (A.told a.old) self.old o r.1 (A.told a.new) self.new × (A.totals a.new ≡ counted_at (A.totals a.old) v o)) }
+        ensures ok { IfOk result (λ r. TakesStep (A.told a.old) self.old r (A.told a.new) self.new) }
+        ensures counts { IfOk result (λ r. CountsIn (A.totals a.old) v r.0 (A.totals a.new)) }
         ensures actors { A.actors a.new ≡ A.actors a.old }
         ensures err { OnErr result (GoesOn self.old self.new) }
         ensures err_ready { OnErr result (self.new.ready ≡ self.old.ready) }
