@@ -1,13 +1,11 @@
 -- Laws of sendv.
-use Rattle.std.proofs.Common.{◌≡◌, ◌≢◌, ℕ, Vec, Global, ◌+◌, ◌-◌, ◌*◌, ◌<◌, ◌≤◌, Bool, true, false, cond, nat_lt, List, [], ◌∷◌, ◌++◌, IsTrue, length, take, drop, Option, Some, None, slice_get, Result, Ok, Err, refl, sym, ap, ◌∙◌, subst, arith, length-append, length-take, length-drop, zero-add, inl, inr}
-use Rattle.std.proofs.lemmas.Bool.Decides.{nat_tests}
+use Rattle.std.proofs.Common.{◌≡◌, ℕ, Vec, Global, ◌+◌, ◌-◌, ◌*◌, ◌≤◌, true, false, cond, nat_lt, List, [], ◌∷◌, ◌++◌, IsTrue, length, take, Result, Ok, Err, refl, sym, ap, ◌∙◌, subst, arith, length-append, length-take}
 use Rattle.std.proofs.lemmas.List.Sums.{sum_by-cons}
-use Rattle.std.proofs.lemmas.List.{drop-drop}
 use Rattle.argo_base.specs.declared.errno.Errno.{Errno}
 use Rattle.argo_base.specs.declared.errno.Errno.TheVariants.{Inval, MsgSize}
 use Rattle.argo_base.specs.Pieces.{pieces}
 use Rattle.argo_base.specs.Layout.{u16_at, u32_at}
-use Rattle.argo_base.specs.Iovs.{Iov, iov_at, is_bad_iov, judged, verdict_of, gathered_pieces}
+use Rattle.argo_base.specs.Iovs.{Iov, is_bad_iov, judged, verdict_of, gathered_pieces}
 use Rattle.argo_base.specs.Limits.{longest_body}
 use Rattle.vcpu_machine.specs.declared.cursor.Cursor.{Cursor}
 use Rattle.argo_model.specs.declared.action.Load.TheVariants.{Body as BodyLoad, Faulted}
@@ -23,9 +21,8 @@ use Rattle.vcpu_machine.specs.Cursor.{pieces_left, IsSound}
 use Rattle.argo_model.specs.Rules.Fit.{is_verdict}
 use Rattle.vcpu_machine.specs.Ranges.{collect}
 use Rattle.vcpu_machine.specs.Reader.{after_read}
-use Rattle.vcpu_machine.specs.Sending.{deliver_to, send_judged_to, iovs_left, bytes_of, IsFirstBuffer, IsNextBuffer, SkipsTo, IsGather}
+use Rattle.vcpu_machine.specs.Sending.{deliver_to, send_judged_to, iovs_left, bytes_of, IsFirstBuffer, IsGather}
 use Rattle.vcpu_machine.specs.Followed.{Leads}
-use Rattle.vcpu_machine.proofs.ListLaws.{drop-slice_get, none_left}
 use Rattle.vcpu_machine.proofs.RangeLaws.{gather-collects, collect-append, collect-same, pieces-within}
 
 -- the verdict is one of two refusals

@@ -15,11 +15,11 @@ use Rattle.argo_model.specs.Rules.Access.{ActsIn, ActsAt}
 use Rattle.argo_model.specs.Rules.Act.{Effect, act}
 use Rattle.argo_model.specs.Rules.Fit.{is_fit, is_fit_for, needs_no_caller}
 use Rattle.argo_model.specs.Rules.State.{State}
-use Rattle.argo_model.specs.Runs.Run.{Progress, Turn, turn, turn_at, turn_by, turn_to, at_first_line}
+use Rattle.argo_model.specs.Runs.Run.{Progress, Turn, turn, turn_at, turn_by, turn_to}
 use Rattle.argo_model.specs.Runs.Script.{Section, turns_of}
 use Rattle.vcpu_machine.specs.declared.phase.Phase.{Phase}
 use Rattle.vcpu_machine.specs.declared.phase.Phase.TheVariants.{Reading, Writing, Asking, Ended}
-use Rattle.vcpu_machine.specs.Phase.{rest_of, IsAtPhase, GoesOnAlike, HasRoom, phase_left, fed_to, is_line_for}
+use Rattle.vcpu_machine.specs.Phase.{rest_of, IsAtPhase, GoesOnAlike, HasRoom, phase_left, is_line_for}
 use Rattle.vcpu_machine.specs.Steps.{most_steps}
 use Rattle.vcpu_machine.specs.Vcpu.{VcpuAt, lines_left, ahead_of, ahead, left_of, reply_in, StandsFor, StandsAt, progress_after, Begun, GoesOn, Fed, TakesTurn, IsAtLine, NeedsNoCaller, IsOwn, IsOwnAt, HasRoomIf, IsVcpu, Begins}
 use Rattle.vcpu_machine.proofs.FitLaws.{and_true}

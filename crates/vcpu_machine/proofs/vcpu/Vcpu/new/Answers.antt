@@ -1,6 +1,5 @@
 use Rattle.std.proofs.Common.{sym, subst, length, sum_by, ◌≤◌}
 use Rattle.argo_model.specs.Runs.Script.{Section, turns_of}
-use Rattle.vcpu_machine.specs.Vcpu.{Begun}
 use Rattle.vcpu_machine.proofs.VcpuLaws.{begun_is, begun_so}
 use Rattle.vcpu_machine.proofs.vcpu.Vcpu.new.Goals as goal
 

@@ -2,7 +2,7 @@ use Rattle.std.proofs.Common.{◌+◌, [], ◌∷◌, drop, true, IsTrue, sym, s
 use Rattle.std.proofs.lemmas.Bool.{false≢true}
 use Rattle.argo_model.specs.Programs.Program.{Next}
 use Rattle.vcpu_machine.specs.Phase.{takes_none}
-use Rattle.vcpu_machine.specs.Vcpu.{VcpuAt, ahead}
+use Rattle.vcpu_machine.specs.Vcpu.{VcpuAt}
 use Rattle.vcpu_machine.proofs.VcpuLaws.{line_here, phase_here, own_here, room_here, rest_here, room_kept, fit_for, goes_on_alike, alike_is}
 use Rattle.vcpu_machine.proofs.vcpu.Vcpu.next.Goals as goal
 
