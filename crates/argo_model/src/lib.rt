@@ -11,7 +11,6 @@ mod closed;
 mod closing;
 pub mod examples;
 mod line;
-mod received;
 mod reply;
 mod scripts;
 mod short;
@@ -26,7 +25,6 @@ pub use closing::{
     NoticeLines, Run, Runs, TotalList, Totals,
 };
 pub use line::{Line, Lines};
-pub use received::Received;
 pub use reply::Reply;
 pub use scripts::{Actor, DomainLine, DomainLines, Part, Parts, Scripts};
 pub use short::Short;

@@ -1,2 +1,0 @@
-pub mod FetchLaws
-pub mod WordLaws
