@@ -1,0 +1,10 @@
+//! The plain world: domains with flat memories, lists and maps, in which the sections of a script perform their actions.
+//!
+//! The layer above uses `FlatWorld`, an `Access` that tells its state: each action is the rule's. It stands on argo_model.
+#![tactic(auto)]
+
+mod change;
+mod memory;
+mod notices;
+mod queries;
+mod ring;
