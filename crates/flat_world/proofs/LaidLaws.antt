@@ -196,9 +196,9 @@ length-ring_bytes memory (p ∷ ps) there =
     omega arith
 
 -- laid back as they are they change nothing
-pub laid-own : (memory pages : List ℕ) → There memory pages → laid pages (ring_bytes memory pages) memory ≡ memory
-laid-own memory [] there = refl
-laid-own memory (p ∷ ps) there =
+pub laid_own : (memory pages : List ℕ) → There memory pages → laid pages (ring_bytes memory pages) memory ≡ memory
+laid_own memory [] there = refl
+laid_own memory (p ∷ ps) there =
     let h = both (nat_lt p (length memory / 4096)) (are_there (length memory / 4096) ps) there in
     let below = there_first (length memory / 4096) p h.0 in
     let size = length-page_bytes memory p below in
@@ -208,17 +208,17 @@ laid-own memory (p ∷ ps) there =
     ap (λ x. laid ps (drop 4096 (page_bytes memory p ++ ring_bytes memory ps)) (splice memory (4096 * p) x)) first
     ∙ ap (λ x. laid ps x (splice memory (4096 * p) (page_bytes memory p))) rest
     ∙ ap (laid ps (ring_bytes memory ps)) back
-    ∙ laid-own memory ps h.1
+    ∙ laid_own memory ps h.1
 
 -- so a memory is itself with the ring's bytes laid back
-pub laid-here : (memory pages : List ℕ) → There memory pages → IsTrue (all_differ pages) → IsLaid pages memory (ring_bytes memory pages) memory
-laid-here memory pages there differ =
-    record { sized = length-ring_bytes memory pages there; inside = there; differ = differ; same = sym (laid-own memory pages there) }
+pub laid_here : (memory pages : List ℕ) → There memory pages → IsTrue (all_differ pages) → IsLaid pages memory (ring_bytes memory pages) memory
+laid_here memory pages there differ =
+    record { sized = length-ring_bytes memory pages there; inside = there; differ = differ; same = sym (laid_own memory pages there) }
 
 -- and a write into the ring is laid back
 pub laid_back : (memory new pages : List ℕ) (change : List ℕ → List ℕ) → There memory pages → IsTrue (all_differ pages) → Writes pages change memory new
     → new ≡ laid pages (change (ring_bytes memory pages)) memory
-laid_back memory new pages change there differ writes = (writes memory (ring_bytes memory pages) (laid-here memory pages there differ)).same
+laid_back memory new pages change there differ writes = (writes memory (ring_bytes memory pages) (laid_here memory pages there differ)).same
 
 -- ---- a write, piece by piece
 

@@ -6,5 +6,9 @@
 mod change;
 mod memory;
 mod notices;
+mod offers;
+mod puts;
 mod queries;
 mod ring;
+mod spelling;
+mod starts;

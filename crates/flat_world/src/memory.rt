@@ -1,5 +1,5 @@
 //! The bytes of a ring, which stand on pages of its owner's memory.
-ghost use Rattle.std.specs.Prelude.{◌≡◌, ◌+◌, ◌*◌, ◌/◌, ◌<◌, ◌≤◌, ◌^◌, IsTrue, length, take, drop};
+ghost use Rattle.std.specs.Prelude.{◌≡◌, ◌+◌, ◌*◌, ◌/◌, ◌<◌, ◌≤◌, ◌^◌, IsTrue, length, take, drop, slice_index};
 ghost use Rattle.argo_base.specs.Layout.{u32_at};
 ghost use Rattle.argo_base.specs.Splice.{splice};
 ghost use Rattle.argo_model.specs.Rules.RingBytes.{ring_bytes, write_slots, write_tx};
@@ -16,8 +16,8 @@ pub(crate) fn u32_at(bytes: &[u8], off: usize) -> u32
     u32::from_le_bytes([rest[0], rest[1], rest[2], rest[3]])
 }
 
-// Where a page begins.
-fn start_of(memory: &[u8], page: u64) -> usize
+/// Where a page begins.
+pub(crate) fn start_of(memory: &[u8], page: u64) -> usize
     requires { page < length memory.now / 4096 }
     ensures is { result ≡ 4096 * page }
     ensures inside { result + 4096 ≤ length memory.now }
@@ -39,7 +39,7 @@ pub(crate) fn page_of(memory: &[u8], page: u64) -> &[u8]
 pub(crate) fn word(memory: &[u8], pages: &[u64], off: usize) -> u32
     requires some { 0 < length pages.now }
     requires inside { off + 4 ≤ 4096 }
-    requires there { IsTrue (are_there (length memory.now / 4096) pages.now) }
+    requires first { slice_index pages.now 0 < length memory.now / 4096 }
     ensures { result ≡ u32_at (ring_bytes memory.now pages.now) off }
 {
     u32_at(page_of(memory, pages[0]), off)

@@ -1,6 +1,5 @@
 //! A ring of a domain.
-ghost use Rattle.std.specs.Prelude.{◌≡◌, ◌/◌, IsTrue, IfOk, OnOk, OnErr, length, filter};
-ghost use Rattle.argo_base.specs.Notices as notes;
+ghost use Rattle.std.specs.Prelude.{◌≡◌, ◌/◌, ◌<◌, IsTrue, IfOk, OnOk, OnErr, length, slice_index};
 ghost use Rattle.argo_model.specs.Rules.RingBytes as bytes;
 ghost use Rattle.argo_model.specs.Rules.Sweep.{sweep_ring};
 ghost use Rattle.argo_model.specs.Rules.Register.{stands_so};
@@ -53,8 +52,9 @@ impl Model for Ring {
 }
 
 impl Ring {
-    fn rx_word(&self, memory: &[u8]) -> u32
-        requires { IsTrue (are_there (length memory.now / 4096) self.now.pages) }
+    /// The rx word in the memory of the ring's owner.
+    pub(crate) fn rx_word(&self, memory: &[u8]) -> u32
+        requires { slice_index self.now.pages 0 < length memory.now / 4096 }
         ensures { result ≡ bytes.rx_word (bytes.ring_bytes memory.now self.now.pages) }
     {
         word(memory, self.pages.as_slice(), 0)
@@ -65,7 +65,8 @@ impl Ring {
         requires { IsTrue (are_there (length memory.now / 4096) self.now.pages) }
         ensures { result ≡ bytes.free (bytes.paged memory.now self.now) }
     {
-        slots::span(self.len, self.rx_word(memory), self.tx)
+        let len = self.len;
+        slots::span(len, self.rx_word(memory), self.tx)
     }
 
     /// Whether the receiver has read all, as far as its rx word says.
@@ -73,7 +74,8 @@ impl Ring {
         requires { IsTrue (are_there (length memory.now / 4096) self.now.pages) }
         ensures { result ≡ bytes.is_empty (bytes.paged memory.now self.now) }
     {
-        slots::sanitise(self.rx_word(memory), self.len) == self.tx
+        let len = self.len;
+        slots::sanitise(self.rx_word(memory), len) == self.tx
     }
 
     /// Whether it is clean, of this length and on exactly these pages.
