@@ -1,3 +1,5 @@
+pub mod Live
 pub mod Memory
 pub mod Offers
 pub mod Starts
+pub mod Sweeps

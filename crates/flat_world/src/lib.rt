@@ -4,6 +4,8 @@
 #![tactic(auto)]
 
 mod change;
+mod live;
+mod matches;
 mod memory;
 mod notices;
 mod offers;

@@ -1,5 +1,5 @@
 //! What a put into a ring's pages does to the ring.
-ghost use Rattle.std.specs.Prelude.{◌≡◌, ◌*◌, ◌/◌, ◌<◌, ◌≤◌, ◌^◌, ◌==◌, length, position, slice_index, IfSome};
+ghost use Rattle.std.specs.Prelude.{◌≡◌, ◌*◌, ◌/◌, ◌<◌, ◌≤◌, ◌^◌, ◌==◌, length, map, position, slice_index, IfSome};
 ghost use Rattle.argo_base.specs.Slots.{place_after};
 ghost use Rattle.argo_model.specs.Rules.Messages.{room_of};
 ghost use Rattle.argo_model.specs.Rules.Puts.{after_put, clean_after, moves, taken_by, touches, meets};
@@ -7,7 +7,25 @@ ghost use Rattle.argo_model.specs.Rules.RingBytes.{paged};
 
 use crate::memory::u32_at;
 use crate::ring::Ring;
-use argo_base::{Message, slots};
+use argo_base::{Message, RingKey, slots};
+use std::collections::BTreeMap;
+
+/// What a put of these bytes at an offset of a page does to the rings of the page's owner, whose memory was so before.
+pub(crate) fn put_into_rings(
+    rings: &mut BTreeMap<RingKey, Ring>,
+    memory: &[u8],
+    page: u64,
+    off: u32,
+    bytes: &[u8],
+)
+    requires { page < length memory.now / 4096 }
+    ensures { rings.new.entries ≡ map (λ e. (e.0, after_put memory.now page off bytes.now e.1)) rings.old.entries }
+{
+    rings.retain(|_, ring| {
+        ring.after_put(memory, page, off, bytes);
+        true
+    });
+}
 
 impl Ring {
     /// What a put of these bytes at an offset of a page does to the ring, whose owner's memory was so before.
