@@ -6,3 +6,4 @@ pub mod EntryLaws
 pub mod LiveLaws
 pub mod NextRingLaws
 pub mod SweepLaws
+pub mod FreePageLaws

@@ -1,5 +1,5 @@
 -- Laws of a domain's rings: one that is found, and one that is written in its place.
-use Rattle.std.proofs.Common.{◌≡◌, ℕ, ◌/◌, IsTrue, List, length, Option, Some, None, option_map, unwrap_or, refl, sym, ap, ◌∙◌, subst}
+use Rattle.std.proofs.Common.{◌≡◌, ℕ, ◌/◌, IsTrue, List, length, map, filter, not, ◌==◌, Bool, true, false, if◌then◌else◌, Option, Some, None, option_map, unwrap_or, Result, Ok, Err, OnErr, refl, sym, ap, ◌∙◌, subst}
 use Rattle.std.specs.Map.{lookup, set_value}
 use Rattle.std.specs.BTreeMap.{is_at}
 use Rattle.std.proofs.lemmas.Map.Steps.{set_value_same}
@@ -9,7 +9,9 @@ use Rattle.argo_model.specs.Rules.State.{Ring, Live}
 use Rattle.argo_model.specs.Rules.Effects.{Change, after, lifted}
 use Rattle.argo_model.specs.Rules.RingBytes.{PagedRing, paged, set_paged, laid, ring_bytes}
 use Rattle.flat_world.specs.Memory.{are_there, stand_in}
-use Rattle.flat_world.proofs.EntryLaws.{all_pass-lookup, all_pass-set_value}
+use Rattle.argo_model.specs.Rules.Puts.{after_put, ring_after_put, clean_after, moves, touches, dirtied, byte_at}
+use Rattle.argo_model.specs.Rules.Destroy.{ring_without, rings_without}
+use Rattle.flat_world.proofs.EntryLaws.{all_pass-lookup, all_pass-set_value, all_pass-map, all_pass-filter}
 use Rattle.flat_world.proofs.LaidLaws.{laid_own}
 
 -- a ring that is found stands in the memory
@@ -41,11 +43,55 @@ lifted_after live key r c found there = by c.left where
   by (Some p) = refl
 
 -- what the owner has after one of its rings, and the memory, were written
-pub ring_written : (before live : Live) (key : RingKey) (r new : Ring) (memory : List ℕ) (q : PagedRing) (rings : List (RingKey × Ring))
-    → before ≡ live → rings ≡ set_value (is_at (key_cmp key)) before.rings new → new ≡ q.ring → new.pages ≡ r.pages
-    → memory ≡ laid r.pages q.own live.bytes → record before { bytes = memory; rings = rings } ≡ set_paged live key q
-ring_written before live key r new memory q rings same written is pages laid_so =
-    ap (λ (x : Live). record x { bytes = memory; rings = rings }) same
-    ∙ ap (λ rs. record live { bytes = memory; rings = rs }) (written ∙ ap (λ (x : Live). set_value (is_at (key_cmp key)) x.rings new) same ∙ ap (set_value (is_at (key_cmp key)) live.rings) is)
+pub ring_written : (live : Live) (key : RingKey) (r new : Ring) (memory : List ℕ) (q : PagedRing) (rings : List (RingKey × Ring))
+    → rings ≡ set_value (is_at (key_cmp key)) live.rings new → new ≡ q.ring → new.pages ≡ r.pages
+    → memory ≡ laid r.pages q.own live.bytes → record live { bytes = memory; rings = rings } ≡ set_paged live key q
+ring_written live key r new memory q rings written is pages laid_so =
+    ap (λ rs. record live { bytes = memory; rings = rs }) (written ∙ ap (set_value (is_at (key_cmp key)) live.rings) is)
     ∙ ap (λ bs. record live { bytes = bs; rings = set_value (is_at (key_cmp key)) live.rings q.ring })
     (laid_so ∙ ap (λ ps. laid ps q.own live.bytes) (sym pages ∙ ap (λ (x : Ring). x.pages) is))
+
+-- after a ring was written back as it was, the owner has what it had
+pub ring_back : (live : Live) (key : RingKey) (r new : Ring) (memory : List ℕ) (rings : List (RingKey × Ring)) → lookup (is_at (key_cmp key)) live.rings ≡ Some r
+    → rings ≡ set_value (is_at (key_cmp key)) live.rings new → new ≡ r → memory ≡ live.bytes → record live { bytes = memory; rings = rings } ≡ live
+ring_back live key r new memory rings found written same bytes =
+    ap (λ bs. record live { bytes = bs; rings = rings }) bytes
+    ∙ ap (λ rs. record live { rings = rs }) (written ∙ ap (set_value (is_at (key_cmp key)) live.rings) same ∙ set_value_same (is_at (key_cmp key)) live.rings r found)
+
+-- what holds in any case holds after an error
+pub in_any_case : {T E P : Type 0} (r : Result T E) → P → OnErr r P
+in_any_case (Ok x) p = tt
+in_any_case (Err e) p = p
+
+-- ---- puts
+
+cleaned_pages : (r : Ring) (at n : ℕ) (k : Option ℕ) → (clean_after r at n k).pages ≡ r.pages
+cleaned_pages r at n (Some k) = refl
+cleaned_pages r at n None = by (touches r.len at n) where
+  by : (b : Bool) → (if b then dirtied r else r).pages ≡ r.pages
+  by true = refl
+  by false = refl
+
+pub put_pages : (memory : List ℕ) (page off : ℕ) (bytes : List ℕ) (r : Ring) → (after_put memory page off bytes r).pages ≡ r.pages
+put_pages memory page off bytes r = at (byte_at page off r) where
+  clean : (b : Bool) (at : ℕ) → (if b then clean_after r at (length bytes) (moves (paged memory r) at bytes) else r).pages ≡ r.pages
+  clean true at = cleaned_pages r at (length bytes) (moves (paged memory r) at bytes)
+  clean false at = refl
+
+  at : (o : Option ℕ) → (unwrap_or (option_map (λ at. ring_after_put (paged memory r) at bytes) o) r).pages ≡ r.pages
+  at None = refl
+  at (Some a) = clean r.clean a
+
+-- the rings stand in the memory after a put
+pub put_stands : (count : ℕ) (memory : List ℕ) (page off : ℕ) (bytes : List ℕ) (rings : List (RingKey × Ring)) → IsTrue (stand_in count rings)
+    → IsTrue (stand_in count (map (λ e. (e.0, after_put memory page off bytes e.1)) rings))
+put_stands count memory page off bytes rings stand =
+    all_pass-map (λ r. are_there count r.pages) (λ r. are_there count r.pages) (after_put memory page off bytes)
+    (λ r h. subst (λ ps. IsTrue (are_there count ps)) (sym (put_pages memory page off bytes r)) h) rings stand
+
+-- and after some of them are forgotten
+pub forget_stands : (count d : ℕ) (rings : List (RingKey × Ring)) → IsTrue (stand_in count rings) → IsTrue (stand_in count (rings_without d rings))
+forget_stands count d rings stand =
+    all_pass-map (λ r. are_there count r.pages) (λ r. are_there count r.pages) (ring_without d) (λ r h. h)
+    (filter (λ (e : RingKey × Ring). not (e.0.partner == d)) rings)
+    (all_pass-filter (λ (r : Ring). are_there count r.pages) (λ (e : RingKey × Ring). not (e.0.partner == d)) rings stand)

@@ -1,3 +1,4 @@
+pub mod FreePages
 pub mod Live
 pub mod Memory
 pub mod Offers

@@ -4,6 +4,7 @@
 #![tactic(auto)]
 
 mod change;
+mod free_pages;
 mod live;
 mod matches;
 mod memory;
@@ -11,6 +12,7 @@ mod notices;
 mod offers;
 mod puts;
 mod queries;
+mod registers;
 mod ring;
 mod spelling;
 mod starts;

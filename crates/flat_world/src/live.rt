@@ -115,7 +115,8 @@ impl Live {
         let Some(ring) = self.rings.get_mut(&key) else {
             return Ok(Change::quiet(alloc, Outcome::NoMore));
         };
-        ring.sweep(alloc, self.bytes.as_slice())
+        let change = ring.sweep(alloc, self.bytes.as_slice())?;
+        Ok(change)
     }
 
     /// Answers a sender that asks for room at a port. Where memory runs out all stays.
@@ -135,17 +136,18 @@ impl Live {
     }
 
     /// Takes an offer to the ring that the sender meets at a port of this domain. Where memory runs out all stays.
-    pub(crate) fn offer(&mut self, to: DomId, to_port: u32, offer: Offer) -> Result<Outcome, NoMemory>
-        requires { IsTrue (is_fit_load offer.load) }
-        ensures outcome { IfOk result (λ o. o ≡ (offer_to_live to to_port offer self.old).outcome) }
-        ensures left { OnOk result (self.new ≡ effects.after self.old (offer_to_live to to_port offer self.old)) }
+    pub(crate) fn offer(&mut self, to: DomId, to_port: u32, sent: Offer) -> Result<Outcome, NoMemory>
+        requires { IsTrue (is_fit_load sent.load) }
+        ensures outcome { IfOk result (λ o. o ≡ (offer_to_live to to_port sent self.old).outcome) }
+        ensures left { OnOk result (self.new ≡ effects.after self.old (offer_to_live to to_port sent self.old)) }
         ensures err { OnErr result (self.new ≡ self.old) }
     {
-        let key = match_key(&self.rings, to_port, offer.sender);
+        let key = match_key(&self.rings, to_port, sent.sender);
         let Some(ring) = self.rings.get_mut(&key) else {
             return Ok(Outcome::Refused(Errno::ConnRefused));
         };
-        ring.offer(&mut self.bytes, offer)
+        let outcome = ring.offer(&mut self.bytes, sent)?;
+        Ok(outcome)
     }
 
     /// Takes a ring away.

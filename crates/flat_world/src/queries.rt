@@ -41,6 +41,7 @@ impl Ring {
         ensures left { OnOk result
             (self.new ≡ (with_notices (paged memory.now self.old) (request (paged memory.now self.old) sender need).notices).ring) }
         ensures err { OnErr result (self.new ≡ self.old) }
+        ensures pages { self.new.pages ≡ self.old.pages }
     {
         let flags = self.standing(memory, key);
         let most = self.len - 32;
@@ -69,6 +70,7 @@ impl Ring {
         ensures left { OnOk result
             (self.new ≡ (with_notices (paged memory.now self.old) (request (paged memory.now self.old) sender need).notices).ring) }
         ensures err { OnErr result (self.new ≡ self.old) }
+        ensures pages { self.new.pages ≡ self.old.pages }
     {
         if slots::too_big(self.len, need) {
             return Ok(MSGSIZE);

@@ -93,6 +93,7 @@ impl Ring {
         ensures left { OnOk result
             (self.new ≡ (after (bytes.paged memory.now self.old) (sweep_ring (bytes.paged memory.now self.old))).ring) }
         ensures err { OnErr result (self.new ≡ self.old) }
+        ensures pages { self.new.pages ≡ self.old.pages }
     {
         let free = self.free(memory);
         let signals = self.notices.fitting(alloc, free)?;

@@ -20,10 +20,10 @@ pub returns-then-contains_key : goal.returns-then-contains_key
 returns-then-contains_key c =
     let rings = c.args.rings.now.entries in
     let key = key_of c.args.port c.args.sender in
-    first key (lookup (is_at (key_cmp key)) rings) (at_key rings (key_of c.args.port wildcard)) (sym c.contains_key.ensures.value ∙ c.if-contains_key.true)
+    first key (lookup (is_at (key_cmp key)) rings) (at_key rings (key_of c.args.port wildcard)) (sym c.contains_key.ensures ∙ c.if-contains_key.true)
 
 pub returns : goal.returns
 returns c =
     let rings = c.args.rings.now.entries in
     let key = key_of c.args.port c.args.sender in
-    second key (lookup (is_at (key_cmp key)) rings) (at_key rings (key_of c.args.port wildcard)) (sym c.contains_key.ensures.value ∙ c.if-contains_key.false)
+    second key (lookup (is_at (key_cmp key)) rings) (at_key rings (key_of c.args.port wildcard)) (sym c.contains_key.ensures ∙ c.if-contains_key.false)

@@ -6,9 +6,9 @@ use Rattle.flat_world.proofs.matches.next_key.Goals as goal
 pub returns-in_err-key : goal.returns-in_err-key
 returns-in_err-key c =
     c.from_residual.ensures ∙ sym (ap (option_map (λ (e : RingKey × ℕ). e.0)) c.in_err-key.was)
-    ∙ nearest_key c.args.after c.args.rings.now c.loop-key.key-iterator c.loop-key.best c.in-None.ensures.steps.0 c.loop-key.invariant
+    ∙ nearest_key c.args.after c.args.rings.now.entries c.loop-key.key-iterator c.loop-key.best c.in-None.ensures.steps.0 c.loop-key.invariant
 
 pub returns : goal.returns
 returns c =
     sym (ap (option_map (λ (e : RingKey × ℕ). e.0)) c.in_ok-key.was)
-    ∙ nearest_key c.args.after c.args.rings.now c.loop-key.key-iterator c.loop-key.best c.in-None.ensures.steps.0 c.loop-key.invariant
+    ∙ nearest_key c.args.after c.args.rings.now.entries c.loop-key.key-iterator c.loop-key.best c.in-None.ensures.steps.0 c.loop-key.invariant
