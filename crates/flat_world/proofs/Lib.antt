@@ -7,3 +7,4 @@ pub mod LiveLaws
 pub mod NextRingLaws
 pub mod SweepLaws
 pub mod FreePageLaws
+pub mod RegisterLaws

@@ -4,12 +4,14 @@
 #![tactic(auto)]
 
 mod change;
+mod domain;
 mod free_pages;
 mod live;
 mod matches;
 mod memory;
 mod notices;
 mod offers;
+mod own;
 mod puts;
 mod queries;
 mod registers;

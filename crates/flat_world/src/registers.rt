@@ -1,10 +1,11 @@
 //! A domain registers a ring, or registers it anew.
-ghost use Rattle.std.specs.Prelude.{◌≡◌, ◌/◌, ◌<◌, ◌^◌, IsTrue, IfOk, OnOk, OnErr, length, filter};
+ghost use Rattle.std.specs.Prelude.{◌≡◌, ◌/◌, ◌<◌, ◌^◌, IsTrue, IfOk, OnOk, OnErr, length, filter, not, nat_le, ◌&&◌};
 ghost use Rattle.argo_base.specs.Notices as notes;
 ghost use Rattle.argo_base.specs.Slots.{is_legal, page_count};
 ghost use Rattle.argo_model.specs.declared.action.Outcome.TheVariants.{Done as IsDone};
 ghost use Rattle.argo_model.specs.Rules.Effects.{after};
-ghost use Rattle.argo_model.specs.Rules.Register.{all_differ, are_free_for, own_ring, register_allowed, register_own, register_new, resized};
+ghost use Rattle.argo_model.specs.Rules.Limits.{most_rings};
+ghost use Rattle.argo_model.specs.Rules.Register.{all_differ, are_free_for, has_ring, own_ring, register_allowed, register_own, register_new, resized};
 ghost use Rattle.argo_model.specs.Rules.RingBytes.{paged, laid};
 ghost use Rattle.argo_model.specs.Rules.Starts.{started};
 ghost use Rattle.flat_world.specs.Memory.{are_there};
@@ -43,17 +44,31 @@ impl Live {
         ensures left { OnOk result (self.new ≡ after self.old (register_own self.old r.key r.len r.pages r.fail_exist)) }
         ensures err { OnErr result (self.new ≡ self.old) }
     {
-        let stands = self.rings.contains_key(&r.key);
-        if stands && r.fail_exist {
+        if self.stands_already(&r) {
             return Ok(Change::quiet(alloc, Outcome::Refused(Errno::Exist)));
         }
-        if !stands && self.rings.len() >= MOST_RINGS {
+        if self.is_full(&r.key) {
             return Ok(Change::quiet(alloc, Outcome::Refused(Errno::NoSpc)));
         }
         if !self.are_free_for(alloc, &r.key, r.pages.as_slice())? {
             return Ok(Change::quiet(alloc, Outcome::Refused(Errno::Inval)));
         }
-        self.register_allowed(alloc, r.key, r.len, r.pages)
+        let change = self.register_allowed(alloc, r.key, r.len, r.pages)?;
+        Ok(change)
+    }
+
+    // Whether a ring of the key stands, and the caller asked for a refusal then.
+    fn stands_already(&self, r: &Registration) -> bool
+        ensures { result ≡ (has_ring self.now r.now.key && r.now.fail_exist) }
+    {
+        self.rings.contains_key(&r.key) && r.fail_exist
+    }
+
+    // Whether no ring of a key under which none stands may be added.
+    fn is_full(&self, key: &RingKey) -> bool
+        ensures { result ≡ (not (has_ring self.now key.now) && nat_le most_rings (length self.now.rings)) }
+    {
+        !self.rings.contains_key(key) && self.rings.len() >= MOST_RINGS
     }
 
     // Registers a ring that may stand on these pages.
