@@ -8,3 +8,4 @@ pub mod NextRingLaws
 pub mod SweepLaws
 pub mod FreePageLaws
 pub mod RegisterLaws
+pub mod WorldLaws

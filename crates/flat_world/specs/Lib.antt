@@ -5,3 +5,4 @@ pub mod Offers
 pub mod Own
 pub mod Starts
 pub mod Sweeps
+pub mod World

@@ -18,3 +18,4 @@ mod registers;
 mod ring;
 mod spelling;
 mod starts;
+mod world;
