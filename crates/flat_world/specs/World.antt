@@ -1,8 +1,10 @@
 -- How the world finds who acts, and with whom.
-use Rattle.std.specs.Prelude.{ℕ, Bool, true, false, ◌&&◌, not, nat_le, IsTrue, List, Option, Some, None}
+use Rattle.std.specs.Prelude.{ℕ, Bool, true, false, ◌&&◌, not, nat_le, IsTrue, List, [], ◌∷◌, Option, Some, None}
 use Rattle.std.specs.List.{list_all}
 use Rattle.argo_model.specs.declared.action.Action.{Action}
 use Rattle.argo_model.specs.declared.action.Action.TheVariants.{Rest, Fetch, Put, Register, Unregister, Deliver, Sweep, Query, Look, Destroy, Reset, Create}
+use Rattle.argo_model.specs.declared.action.Outcome.{Outcome}
+use Rattle.argo_model.specs.declared.action.Outcome.TheVariants.{Done, Bytes, Fault, Refused, Accepted, Swept, NoMore, Answer, Flag, Gone}
 use Rattle.argo_model.specs.Rules.Register.{is_single}
 use Rattle.argo_model.specs.Rules.State.{State, Domain, Live, domain_of, life_in, is_alive, is_on}
 use Rattle.flat_world.specs.declared.own.Partner.{Partner}
@@ -18,6 +20,19 @@ on_if_there generation (Some x) = on_if_live x (life_in generation x)
 
 abbrev pub caller_on : State → ℕ → ℕ → Option Bool
 caller_on s d generation = on_if_there generation (domain_of s d)
+
+-- whom an offer with this outcome signals
+abbrev pub accepted_signals : ℕ → Outcome → List ℕ
+accepted_signals to Done = []
+accepted_signals to (Bytes bs) = []
+accepted_signals to Fault = []
+accepted_signals to (Refused e) = []
+accepted_signals to (Accepted n) = to ∷ []
+accepted_signals to (Swept serial) = []
+accepted_signals to NoMore = []
+accepted_signals to (Answer a) = []
+accepted_signals to (Flag set) = []
+accepted_signals to Gone = []
 
 -- what a single partner lacks
 abbrev pub partner_in : State → ℕ → Partner

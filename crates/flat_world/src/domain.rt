@@ -60,7 +60,8 @@ impl Domain {
         let Some(live) = &mut self.life else {
             return Ok(Change::quiet(alloc, Outcome::Gone));
         };
-        live.act(alloc, on, partner, action)
+        let change = live.act(alloc, on, partner, action)?;
+        Ok(change)
     }
 
     /// Takes an offer to the ring that the sender meets at a port of this domain. Where memory runs out all stays.
@@ -76,7 +77,8 @@ impl Domain {
         let Some(live) = &mut self.life else {
             return Ok(Outcome::Refused(Errno::ConnRefused));
         };
-        live.offer(to, to_port, sent)
+        let outcome = live.offer(to, to_port, sent)?;
+        Ok(outcome)
     }
 
     /// Answers a sender that asks for room at a port. Where memory runs out all stays.

@@ -5,7 +5,7 @@ ghost use Rattle.argo_model.specs.declared.scripts.Actor.TheVariants.{Vcpu};
 ghost use Rattle.argo_model.specs.Rules.Act.{act};
 ghost use Rattle.argo_model.specs.Rules.Fit.{is_fit, is_fit_load};
 ghost use Rattle.argo_model.specs.Rules.State as state;
-ghost use Rattle.flat_world.specs.World.{caller_on, partner_in, partner_for, is_own, IsYoung};
+ghost use Rattle.flat_world.specs.World.{accepted_signals, caller_on, partner_in, partner_for, is_own, IsYoung};
 
 use crate::domain::Domain;
 use crate::live::Live;
@@ -119,6 +119,15 @@ impl World {
         }
     }
 
+    // Sets the flag of the receiver of a message that was accepted.
+    fn signal_if_accepted(&mut self, to: DomId, outcome: &Outcome)
+        ensures { self.new ≡ state.signal_all self.old (accepted_signals to outcome.now) }
+    {
+        if let Outcome::Accepted(_) = outcome {
+            self.signal(to);
+        }
+    }
+
     /// An act of a domain on itself. Where memory runs out the world stays.
     pub(crate) fn own_act(
         &mut self,
@@ -168,9 +177,7 @@ impl World {
             return Ok(Outcome::Refused(Errno::ConnRefused));
         };
         let outcome = receiver.offer(to, to_port, sent)?;
-        if let Outcome::Accepted(_) = outcome {
-            self.signal(to);
-        }
+        self.signal_if_accepted(to, &outcome);
         Ok(outcome)
     }
 
