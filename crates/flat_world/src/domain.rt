@@ -1,7 +1,7 @@
 //! A domain of the world.
 ghost use Rattle.std.specs.Prelude.{◌≡◌, ◌<◌, ◌^◌, Some, IsTrue, IfOk, IfSome, OnOk, OnErr};
 ghost use Rattle.argo_model.specs.Rules.Deliver.{offer_to_domain};
-ghost use Rattle.argo_model.specs.Rules.Destroy.{live_without, reset_live, next_domain};
+ghost use Rattle.argo_model.specs.Rules.Destroy.{gone_domain, live_without, reset_live, next_domain};
 ghost use Rattle.argo_model.specs.Rules.Fit.{is_fit, is_fit_load};
 ghost use Rattle.argo_model.specs.Rules.Query.{query_domain};
 ghost use Rattle.argo_model.specs.Rules.State.{change_life, signalled, life_in};
@@ -121,6 +121,13 @@ impl Domain {
         if let Some(live) = &mut self.life {
             live.reset(alloc);
         }
+    }
+
+    /// Ends the domain, with all that it has.
+    pub(crate) fn end(&mut self)
+        ensures { self.new ≡ gone_domain self.old }
+    {
+        self.life = None;
     }
 
     /// Makes the domain anew, in its next generation.

@@ -3,8 +3,10 @@
 //! The layer above uses `FlatWorld`, an `Access` that tells its state: each action is the rule's. It stands on argo_model.
 #![tactic(auto)]
 
+mod acts;
 mod change;
 mod domain;
+mod ends;
 mod free_pages;
 mod live;
 mod matches;
