@@ -9,3 +9,4 @@ pub mod SweepLaws
 pub mod FreePageLaws
 pub mod RegisterLaws
 pub mod WorldLaws
+pub mod YoungLaws
