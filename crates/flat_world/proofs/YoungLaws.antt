@@ -5,21 +5,22 @@ use Rattle.std.specs.Ordering.{nat_cmp}
 use Rattle.std.specs.BTreeMap.{is_at}
 use Rattle.argo_base.specs.Match.{match_of, key_of}
 use Rattle.argo_base.specs.declared.errno.Errno.{Errno}
-use Rattle.argo_base.specs.declared.errno.Errno.TheVariants.{Srch, Exist}
+use Rattle.argo_base.specs.declared.errno.Errno.TheVariants.{Srch, Exist, NoDev, NoEnt, NoSpc, Inval, ConnRefused}
 use Rattle.argo_base.specs.declared.ring_key.RingKey.{RingKey}
 use Rattle.argo_model.specs.declared.scripts.Actor.{Actor}
 use Rattle.argo_model.specs.declared.scripts.Actor.TheVariants.{Vcpu, Control}
 use Rattle.argo_model.specs.declared.action.Action.{Action}
 use Rattle.argo_model.specs.declared.action.Action.TheVariants.{Rest, Fetch, Put, Register, Unregister, Deliver, Sweep, Query, Look, Destroy, Reset, Create}
 use Rattle.argo_model.specs.declared.action.Outcome.TheVariants.{Done, Fault, Answer as Answered}
-use Rattle.argo_model.specs.Rules.State.{State, Domain, Live, Ring, domain_of, set_domain, life_in, is_alive, has_page, signal, signal_all, flagged, signalled, change_found, change_domain, change_life}
-use Rattle.argo_model.specs.Rules.Act.{act, act_of, act_of_control, act_if_there, act_if_live, put}
+use Rattle.argo_model.specs.Rules.State.{State, Domain, Live, Ring, domain_of, set_domain, life_in, is_alive, is_on, has_page, signal, signal_all, flagged, signalled, change_found, change_domain, change_life}
+use Rattle.argo_model.specs.Rules.Act.{act, act_of, act_of_control, act_if_there, act_if_live, put, look}
 use Rattle.argo_model.specs.Rules.Deliver.{Offer, offer, offer_to_match, offer_to_life, offer_to_domain}
 use Rattle.argo_model.specs.Rules.Destroy.{destroy, reset, create, forget, live_without, gone_domain, reset_live, next_domain}
 use Rattle.argo_model.specs.Rules.Effects.{Change, change_in, set_left, with_life, answered, leaving, refuse_if, lifted}
+use Rattle.argo_model.specs.Rules.Limits.{most_rings}
 use Rattle.argo_model.specs.Rules.Puts.{put_into}
 use Rattle.argo_model.specs.Rules.Query.{query_match, query_life, query_domain, query_ring, no_answer}
-use Rattle.argo_model.specs.Rules.Register.{own_ring, register_own, register_allowed, register_anew, stands_so}
+use Rattle.argo_model.specs.Rules.Register.{own_ring, has_ring, are_free_for, is_single, register_allowed, register_anew, stands_so, without_ring}
 use Rattle.argo_model.specs.Rules.RingBytes.{PagedRing, paged, set_paged}
 use Rattle.argo_model.specs.Rules.Sweep.{sweep_found, sweep_ring, next_ring}
 use Rattle.flat_world.specs.World.{is_young_life, is_young_domain, IsYoung}
@@ -129,7 +130,7 @@ module _ (n : ℕ) (live : Live) (h : YoungLife n (Some live)) where
 
 offered_young : (n to port : ℕ) (o : Offer) (x : Option Domain) → ((y : Domain) → x ≡ Some y → YoungLife n y.life) → YoungLife n (offer_to_domain to port o x).left
 offered_young n to port o None h = refl
-offered_young n to port o (Some x) h = refused_young n (not x.on) _ (offer_to_life to port o x.life) (by x.life (h x refl)) where
+offered_young n to port o (Some x) h = refused_young n (not x.on) ConnRefused (offer_to_life to port o x.life) (by x.life (h x refl)) where
   by : (l : Option Live) → YoungLife n l → YoungLife n (offer_to_life to port o l).left
   by None h = refl
   by (Some live) h = matched_young n live h to o (match_of live.rings port o.sender)
@@ -203,21 +204,46 @@ control_young n s (Create d) young = create_young n s d young
 of_young : (n : ℕ) (s : State) (d : ℕ) (x : Domain) (live : Live) (a : Action) → YoungLife n (Some live) → IsYoung n s → IsYoung (n + 1) (act_of s d x live a).state
 of_young n s d x live Rest h young = young_more n s young
 of_young n s d x live (Fetch page off m) h young = young_more n s young
-of_young n s d x live (Put page off bytes) h young = young_more n _ (change_young n s d (put live page off bytes) (put_young n live h page off bytes) young)
+of_young n s d x live (Put page off bytes) h young = young_more n (change_in s d (put live page off bytes)).state (change_young n s d (put live page off bytes) (put_young n live h page off bytes) young)
 of_young n s d x live (Register port partner len pages fail_exist) h young =
     let key = key_of port partner in
-    let rest = allowed_young n live h key len pages (own_ring live key) in
-    change_young (n + 1) s d _
-    (refused_young (n + 1) _ _ _ (refused_young (n + 1) _ _ _ (refused_young (n + 1) _ _ _ (refused_young (n + 1) _ _ _ (refused_young (n + 1) _ _ _ (refused_young (n + 1) _ _ _ rest))))))
+    let rest = register_allowed live key len pages (own_ring live key) in
+    let free = refuse_if (not (are_free_for live key pages)) Inval rest in
+    let room = refuse_if (not (has_ring live key) && nat_le most_rings (length live.rings)) NoSpc free in
+    let own = refuse_if (has_ring live key && fail_exist) Exist room in
+    let off = refuse_if (is_single partner && not (is_on s partner)) ConnRefused own in
+    let on = refuse_if (not x.on) NoDev off in
+    let more = n + 1 in
+    change_young more s d (refuse_if (is_single partner && not (is_alive s partner)) Srch on)
+    (refused_young more (is_single partner && not (is_alive s partner)) Srch on
+    (refused_young more (not x.on) NoDev off
+    (refused_young more (is_single partner && not (is_on s partner)) ConnRefused own
+    (refused_young more (has_ring live key && fail_exist) Exist room
+    (refused_young more (not (has_ring live key) && nat_le most_rings (length live.rings)) NoSpc free
+    (refused_young more (not (are_free_for live key pages)) Inval rest (allowed_young n live h key len pages (own_ring live key))))))))
     (young_more n s young)
-of_young n s d x live (Unregister port partner) h young = young_more n _ (change_young n s d _ (refused_young n _ _ _ (refused_young n _ _ _ h)) young)
+of_young n s d x live (Unregister port partner) h young =
+    let key = key_of port partner in
+    let gone : Change Live = leaving Done (without_ring live key) in
+    let rest = refuse_if (not (has_ring live key)) NoEnt gone in
+    let c = refuse_if (not x.on) NoDev rest in
+    young_more n (change_in s d c).state (change_young n s d c (refused_young n (not x.on) NoDev rest (refused_young n (not (has_ring live key)) NoEnt gone h)) young)
 of_young n s d x live (Deliver port to to_port kind load) h young =
     let o : Offer = record { sender = d; port = port; kind = kind; load = load } in
-    young_more n _ (change_young n s to _ (refused_young n _ _ _ (refused_young n _ _ _ (offered_young n to to_port o (domain_of s to) (life_found n s to young)))) young)
-of_young n s d x live (Sweep after) h young = young_more n _ (change_young n s d _ (refused_young n _ _ _ (swept_young n live h (next_ring after live.rings))) young)
+    let rest = offer_to_domain to to_port o (domain_of s to) in
+    let on = refuse_if (not x.on) NoDev rest in
+    let c = refuse_if (not (is_alive s to)) Srch on in
+    young_more n (change_in s to c).state
+    (change_young n s to c (refused_young n (not (is_alive s to)) Srch on (refused_young n (not x.on) NoDev rest (offered_young n to to_port o (domain_of s to) (life_found n s to young)))) young)
+of_young n s d x live (Sweep after) h young =
+    let rest = sweep_found live (next_ring after live.rings) in
+    let c = refuse_if (not x.on) NoDev rest in
+    young_more n (change_in s d c).state (change_young n s d c (refused_young n (not x.on) NoDev rest (swept_young n live h (next_ring after live.rings))) young)
 of_young n s d x live (Query to to_port need) h young =
-    young_more n _ (change_young n s to _ (refused_young n _ _ _ (asked_young n d to_port need (domain_of s to) (life_found n s to young))) young)
-of_young n s d x live Look h young = young_more n _ (change_young n s d _ h young)
+    let rest = query_domain d to_port need (domain_of s to) in
+    let c = refuse_if (not x.on) NoDev rest in
+    young_more n (change_in s to c).state (change_young n s to c (refused_young n (not x.on) NoDev rest (asked_young n d to_port need (domain_of s to) (life_found n s to young))) young)
+of_young n s d x live Look h young = young_more n (change_in s d (look live)).state (change_young n s d (look live) h young)
 of_young n s d x live (Destroy e) h young = young_more n (destroy s e).state (destroy_young n s e young)
 of_young n s d x live (Reset e) h young = young_more n (reset s e).state (reset_young n s e young)
 of_young n s d x live (Create e) h young = create_young n s e young
