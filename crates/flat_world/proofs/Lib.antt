@@ -10,3 +10,6 @@ pub mod FreePageLaws
 pub mod RegisterLaws
 pub mod WorldLaws
 pub mod YoungLaws
+pub mod OutcomeLaws
+pub mod TestLaws
+pub mod FlatLaws

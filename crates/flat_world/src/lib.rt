@@ -5,8 +5,11 @@
 
 mod acts;
 mod change;
+mod closed_domains;
 mod domain;
 mod ends;
+mod finals;
+mod flat_world;
 mod free_pages;
 mod live;
 mod matches;
@@ -21,3 +24,5 @@ mod ring;
 mod spelling;
 mod starts;
 mod world;
+
+pub use flat_world::FlatWorld;
