@@ -1,5 +1,5 @@
 -- Laws of the table of the pages that are taken.
-use Rattle.std.proofs.Common.{◌≡◌, ◌≢◌, ℕ, ◌/◌, Bool, true, false, cond, ◌&&◌, ◌||◌, not, nat_lt, ◌==◌, List, [], ◌∷◌, IsTrue, length, replicate, slice_index_or, slice_set, ⊎_elim, refl, sym, ap, ◌∙◌, arith}
+use Rattle.std.proofs.Common.{◌≡◌, ◌≢◌, ℕ, ◌/◌, Bool, true, false, cond, ◌&&◌, ◌||◌, not, nat_lt, ◌==◌, List, [], ◌∷◌, length, replicate, slice_index_or, slice_set, ⊎_elim, refl, sym, ap, ◌∙◌, arith}
 use Rattle.std.proofs.lemmas.Bool.{cases_eq, cases_lt}
 use Rattle.std.proofs.lemmas.Bool.Decides.{nat_tests}
 use Rattle.std.proofs.lemmas.List.{get_or-set_same, get_or-set_other, get_or-replicate, get_or_past, length-replicate, length-set}
@@ -11,7 +11,6 @@ use Rattle.argo_model.specs.Rules.State.{Live}
 use Rattle.argo_model.specs.Rules.State.{Ring}
 use Rattle.argo_model.specs.Rules.State.{has_page}
 use Rattle.argo_model.specs.Rules.Register.{has_number, all_differ, is_free_for, are_free_for}
-use Rattle.flat_world.specs.Memory.{are_there, stand_in}
 use Rattle.flat_world.specs.FreePages.{is_taken, with_pages, with_others, are_free_in}
 
 -- ---- tests

@@ -1,10 +1,9 @@
 -- Laws of a ring's bytes that are laid back into its owner's memory.
-use Rattle.std.proofs.Common.{◌≡◌, ◌≢◌, ℕ, zero, suc, ◌+◌, ◌-◌, ◌*◌, ◌/◌, ◌%◌, ◌<◌, ◌≤◌, min, Bool, true, false, ◌||◌, ◌&&◌, ◌==◌, nat_lt, IsTrue, List, [], ◌∷◌, ◌++◌, length, take, drop, slice_index, inl, inr, ⊎_elim, refl, sym, ap, ◌∙◌, subst, add-zero, append_assoc, arith, length-append, length-take, length-drop}
+use Rattle.std.proofs.Common.{◌≡◌, ◌≢◌, ℕ, zero, suc, ◌+◌, ◌*◌, ◌/◌, ◌%◌, ◌<◌, ◌≤◌, min, Bool, true, false, ◌||◌, ◌&&◌, ◌==◌, nat_lt, IsTrue, List, [], ◌∷◌, ◌++◌, length, take, drop, slice_index, ⊎_elim, refl, sym, ap, ◌∙◌, subst, arith, length-append, length-take, length-drop}
 use Rattle.std.specs.Prelude.{not}
-use Rattle.std.proofs.lemmas.List.{length-take-le, take-append-le, take_all, drop_all, take_at, drop_at, drop-drop, take-append-drop}
+use Rattle.std.proofs.lemmas.List.{length-take-le, take_all, drop_all, take_at, drop_at, drop-drop, take-append-drop}
 use Rattle.std.proofs.lemmas.Bool.{cases_lt, cases_order, false≢true}
 use Rattle.std.proofs.lemmas.Bool.Decides.{nat_tests}
-use Rattle.argo_base.specs.Layout.{u32_at}
 use Rattle.argo_base.specs.Splice.{splice}
 use Rattle.argo_base.proofs.SpliceLaws.{splice-nil, splice-append_left, splice-append_right, length-splice, take-splice_before, drop-splice_after, part-splice, splice-splice}
 use Rattle.argo_model.specs.Rules.Register.{has_number, all_differ}

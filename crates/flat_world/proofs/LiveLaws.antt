@@ -7,7 +7,7 @@ use Rattle.argo_base.specs.declared.ring_key.RingKey.{RingKey}
 use Rattle.argo_base.specs.Match.{key_cmp}
 use Rattle.argo_model.specs.Rules.State.{Ring, Live}
 use Rattle.argo_model.specs.Rules.Effects.{Change, after, lifted}
-use Rattle.argo_model.specs.Rules.RingBytes.{PagedRing, paged, set_paged, laid, ring_bytes}
+use Rattle.argo_model.specs.Rules.RingBytes.{PagedRing, paged, set_paged, laid}
 use Rattle.flat_world.specs.Memory.{are_there, stand_in}
 use Rattle.argo_model.specs.Rules.Puts.{after_put, ring_after_put, clean_after, moves, touches, dirtied, byte_at}
 use Rattle.argo_model.specs.Rules.Destroy.{ring_without, rings_without}

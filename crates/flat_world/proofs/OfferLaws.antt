@@ -7,7 +7,7 @@ use Rattle.argo_base.specs.Slots.{fits, is_too_big}
 use Rattle.argo_model.specs.declared.action.Load.TheVariants.{Body, Faulted, Refused}
 use Rattle.argo_model.specs.declared.action.Outcome.TheVariants.{Refused as IsRefused}
 use Rattle.argo_model.specs.Rules.State.{Ring}
-use Rattle.argo_model.specs.Rules.Deliver.{Offer, offer, offer_load, if_it_fits, wait_for_room, with_notice, accepted, message_of, bytes_with}
+use Rattle.argo_model.specs.Rules.Deliver.{Offer, offer_load, wait_for_room, with_notice, accepted, message_of, bytes_with}
 use Rattle.argo_model.specs.Rules.Effects.{Change, refused, leaving, refuse_if, after}
 use Rattle.argo_model.specs.Rules.RingBytes.{PagedRing, paged, free, laid, ring_bytes}
 use Rattle.flat_world.specs.Memory.{are_there}

@@ -1,7 +1,7 @@
 -- Laws of registrations.
-use Rattle.std.proofs.Common.{◌≡◌, ℕ, ◌+◌, ◌*◌, ◌/◌, ◌<◌, ◌≤◌, Bool, true, false, not, ◌&&◌, nat_le, if◌then◌else◌, IsTrue, List, [], ◌∷◌, length, Option, Some, slice_index, refl, sym, ap, ◌∙◌, arith}
+use Rattle.std.proofs.Common.{◌≡◌, ℕ, ◌+◌, ◌*◌, ◌/◌, ◌<◌, Bool, true, false, not, ◌&&◌, nat_le, if◌then◌else◌, IsTrue, List, [], ◌∷◌, length, Some, slice_index, refl, sym, ap, ◌∙◌, arith}
 use Rattle.std.specs.List.{list_all}
-use Rattle.std.specs.Map.{lookup, set_value}
+use Rattle.std.specs.Map.{set_value}
 use Rattle.std.specs.BTreeMap.{is_at, insert_entry}
 use Rattle.argo_base.specs.declared.errno.Errno.TheVariants.{Exist, NoSpc, Inval}
 use Rattle.argo_base.specs.declared.ring_key.RingKey.{RingKey}
@@ -12,10 +12,10 @@ use Rattle.argo_base.specs.Splice.{splice}
 use Rattle.argo_model.specs.declared.action.Outcome.TheVariants.{Done}
 use Rattle.argo_model.specs.Rules.State.{Ring, Live, has_page}
 use Rattle.argo_model.specs.Rules.Limits.{most_rings}
-use Rattle.argo_model.specs.Rules.Effects.{Change, answered, refuse_if}
+use Rattle.argo_model.specs.Rules.Effects.{answered, refuse_if}
 use Rattle.argo_model.specs.Rules.Register.{all_differ, is_free_for, are_free_for, own_ring, has_ring, stands_so, register_allowed, register_anew, register_own}
 use Rattle.argo_model.specs.Rules.RingBytes.{laid, ring_bytes, rx_word, tx_word, write_tx}
-use Rattle.argo_model.specs.Rules.Starts.{start_place, bytes_after_start, started_ring}
+use Rattle.argo_model.specs.Rules.Starts.{start_place, bytes_after_start}
 use Rattle.flat_world.specs.Memory.{are_there, stand_in}
 use Rattle.flat_world.specs.Starts.{start_on, memory_with_start}
 use Rattle.flat_world.proofs.EntryLaws.{all_pass-set_value, all_pass-insert_entry}

@@ -1,5 +1,5 @@
 -- Laws of the world's domains: one that is found, and one that has changed.
-use Rattle.std.proofs.Common.{◌≡◌, ℕ, ◌<◌, ◌≤◌, ◌^◌, Bool, true, false, not, if◌then◌else◌, unwrap_or, nat_le, ◌&&◌, IsTrue, List, [], length, Option, Some, None, IfSome, refl, sym, ap, ◌∙◌, subst, arith}
+use Rattle.std.proofs.Common.{◌≡◌, ℕ, ◌<◌, ◌≤◌, ◌^◌, Bool, true, false, not, if◌then◌else◌, unwrap_or, nat_le, IsTrue, [], length, Option, Some, None, IfSome, refl, sym, ap, ◌∙◌, arith}
 use Rattle.std.proofs.lemmas.Bool.{false≢true}
 use Rattle.std.proofs.lemmas.Bool.Decides.{nat_tests}
 use Rattle.std.proofs.lemmas.Map.Steps.{set_value_same}
@@ -18,8 +18,8 @@ use Rattle.argo_model.specs.Rules.RingBytes.{PagedRing, paged, free}
 use Rattle.argo_model.specs.declared.scripts.Actor.TheVariants.{Vcpu}
 use Rattle.argo_model.specs.declared.action.Action.{Action}
 use Rattle.argo_model.specs.declared.action.Action.TheVariants.{Rest, Fetch, Put, Register, Unregister, Deliver, Sweep, Query, Look, Destroy, Reset, Create}
-use Rattle.argo_model.specs.declared.action.Outcome.TheVariants.{Gone, Refused, Answer as Answered}
-use Rattle.argo_model.specs.Rules.State.{State, Domain, Live, Ring, domain_of, set_domain, life_in, signal_all, change_found, change_domain}
+use Rattle.argo_model.specs.declared.action.Outcome.TheVariants.{Refused, Answer as Answered}
+use Rattle.argo_model.specs.Rules.State.{State, Domain, Live, Ring, domain_of, set_domain, life_in, signal_all, change_found}
 use Rattle.argo_model.specs.Rules.Act.{act, act_of, act_if_there, act_if_live}
 use Rattle.argo_model.specs.Rules.Effects.{Change, change_in, set_left, with_life, answered, refused, leaving, refuse_if, after}
 use Rattle.flat_world.specs.Own.{own_change, own_if_live, with_left}

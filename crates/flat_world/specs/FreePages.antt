@@ -1,11 +1,9 @@
 -- How it is found that pages are free for a ring: a table has for each page of a memory whether it is taken.
 use Rattle.std.specs.Prelude.{ℕ, Bool, true, ◌&&◌, not, if◌then◌else◌, List, [], ◌∷◌, slice_index_or, slice_set}
-use Rattle.std.specs.List.{list_all}
 use Rattle.std.specs.BTreeMap.{is_at}
 use Rattle.argo_base.specs.declared.ring_key.RingKey.{RingKey}
 use Rattle.argo_base.specs.Match.{key_cmp}
 use Rattle.argo_model.specs.Rules.State.{Ring}
-
 
 -- a page that is not in the table counts as taken
 abbrev pub is_taken : List Bool → ℕ → Bool

@@ -1,5 +1,5 @@
 -- What an act of a domain on itself comes to.
-use Rattle.std.specs.Prelude.{ℕ, Bool, not, Option, Some, None}
+use Rattle.std.specs.Prelude.{Bool, not, Option, Some, None}
 use Rattle.argo_base.specs.Match.{key_of}
 use Rattle.argo_base.specs.declared.errno.Errno.TheVariants.{Srch, NoDev, ConnRefused}
 use Rattle.argo_model.specs.declared.action.Action.{Action}

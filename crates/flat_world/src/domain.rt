@@ -65,7 +65,12 @@ impl Domain {
     }
 
     /// Takes an offer to the ring that the sender meets at a port of this domain. Where memory runs out all stays.
-    pub(crate) fn offer(&mut self, to: DomId, to_port: u32, sent: Offer) -> Result<Outcome, NoMemory>
+    pub(crate) fn offer(
+        &mut self,
+        to: DomId,
+        to_port: u32,
+        sent: Offer,
+    ) -> Result<Outcome, NoMemory>
         requires { IsTrue (is_fit_load sent.load) }
         ensures outcome { IfOk result (λ o. o ≡ (offer_to_domain to to_port sent (Some self.old)).outcome) }
         ensures left { OnOk result (self.new ≡ with_left self.old (offer_to_domain to to_port sent (Some self.old)).left) }
@@ -82,7 +87,12 @@ impl Domain {
     }
 
     /// Answers a sender that asks for room at a port. Where memory runs out all stays.
-    pub(crate) fn answer(&mut self, port: u32, sender: DomId, need: u32) -> Result<Outcome, NoMemory>
+    pub(crate) fn answer(
+        &mut self,
+        port: u32,
+        sender: DomId,
+        need: u32,
+    ) -> Result<Outcome, NoMemory>
         ensures outcome { IfOk result (λ o. o ≡ (query_domain sender port need (Some self.old)).outcome) }
         ensures left { OnOk result (self.new ≡ with_left self.old (query_domain sender port need (Some self.old)).left) }
         ensures err { OnErr result (self.new ≡ self.old) }

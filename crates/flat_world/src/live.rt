@@ -62,7 +62,13 @@ impl Live {
     }
 
     /// Fetches `n` bytes at an offset of a page.
-    pub(crate) fn fetch(&self, alloc: Global, page: u64, off: u32, n: u32) -> Result<Outcome, NoMemory>
+    pub(crate) fn fetch(
+        &self,
+        alloc: Global,
+        page: u64,
+        off: u32,
+        n: u32,
+    ) -> Result<Outcome, NoMemory>
         requires { off + n ≤ 4096 }
         ensures { IfOk result (λ o. o ≡ acts.fetch self.now page off n) }
     {
@@ -120,7 +126,12 @@ impl Live {
     }
 
     /// Answers a sender that asks for room at a port. Where memory runs out all stays.
-    pub(crate) fn answer(&mut self, port: u32, sender: DomId, need: u32) -> Result<Outcome, NoMemory>
+    pub(crate) fn answer(
+        &mut self,
+        port: u32,
+        sender: DomId,
+        need: u32,
+    ) -> Result<Outcome, NoMemory>
         ensures outcome { IfOk result
             (λ o. o ≡ (query_match self.old sender need (match_of self.old.rings port sender)).outcome) }
         ensures left { OnOk result
@@ -136,7 +147,12 @@ impl Live {
     }
 
     /// Takes an offer to the ring that the sender meets at a port of this domain. Where memory runs out all stays.
-    pub(crate) fn offer(&mut self, to: DomId, to_port: u32, sent: Offer) -> Result<Outcome, NoMemory>
+    pub(crate) fn offer(
+        &mut self,
+        to: DomId,
+        to_port: u32,
+        sent: Offer,
+    ) -> Result<Outcome, NoMemory>
         requires { IsTrue (is_fit_load sent.load) }
         ensures outcome { IfOk result (λ o. o ≡ (offer_to_live to to_port sent self.old).outcome) }
         ensures left { OnOk result (self.new ≡ effects.after self.old (offer_to_live to to_port sent self.old)) }

@@ -76,7 +76,8 @@ impl NoticeMap {
     pub(crate) fn end_fitting(&mut self, free: u32)
         ensures { self.new ≡ filter (waits_on free) self.old }
     {
-        self.notices.retain(|_, size| !slots::fits_into(free, *size));
+        self.notices
+            .retain(|_, size| !slots::fits_into(free, *size));
     }
 
     /// The domains whose notices can never fit into a ring of that length.

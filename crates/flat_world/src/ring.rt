@@ -39,13 +39,13 @@ impl Model for Ring {
     ghost use Rattle.flat_world.specs.Memory.{IsRing};
 
     ghost view = { λ r. record {
-        serial = r.serial;
-        len = r.len;
-        pages = r.pages;
-        tx = r.tx;
-        clean = r.clean;
-        untaken = r.untaken.messages;
-        notices = r.notices
+      serial = r.serial;
+      len = r.len;
+      pages = r.pages;
+      tx = r.tx;
+      clean = r.clean;
+      untaken = r.untaken.messages;
+      notices = r.notices;
     } };
 
     ghost invariant = { λ r. IsRing r.len r.tx r.pages };

@@ -1,9 +1,9 @@
-use Rattle.std.proofs.Common.{◌≡◌, ℕ, true, false, Option, Some, None, is_some, option_map, List, refl, sym, ap, ◌∙◌}
+use Rattle.std.proofs.Common.{◌≡◌, true, false, Option, Some, None, is_some, option_map, refl, sym, ◌∙◌}
 use Rattle.std.specs.Option.{option_or}
 use Rattle.std.specs.Map.{lookup}
 use Rattle.std.specs.BTreeMap.{is_at}
 use Rattle.argo_base.specs.declared.ring_key.RingKey.{RingKey}
-use Rattle.argo_base.specs.Match.{key_cmp, key_of, wildcard, at_key, match_of}
+use Rattle.argo_base.specs.Match.{key_cmp, key_of, wildcard, at_key}
 use Rattle.flat_world.proofs.matches.match_key.Goals as goal
 
 first : {X : Type 0} (key : RingKey) (a : Option X) (rest : Option (RingKey × X)) → is_some a ≡ true

@@ -1,5 +1,5 @@
-use Rattle.std.proofs.Common.{◌≡◌, ◌+◌, ◌*◌, ◌/◌, ◌≤◌, ◌<◌, ◌^◌, List, ℕ, IsTrue, length}
-use Rattle.flat_world.specs.Memory.{are_there, IsLaid, WritesOn}
+use Rattle.std.proofs.Common.{◌≡◌, ◌+◌, ◌*◌, ◌≤◌, ◌<◌, ◌^◌, List, ℕ, length}
+use Rattle.flat_world.specs.Memory.{IsLaid, WritesOn}
 use Rattle.flat_world.proofs.memory.write_at.Given as goal
 
 -- what is left of the bytes makes the ring whole

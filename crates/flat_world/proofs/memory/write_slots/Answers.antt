@@ -1,4 +1,4 @@
-use Rattle.std.proofs.Common.{◌≡◌, ◌+◌, ◌-◌, ℕ, take, drop, length, ap, ◌∙◌, subst}
+use Rattle.std.proofs.Common.{◌+◌, ◌-◌, take, drop, ap, ◌∙◌, subst}
 use Rattle.argo_base.specs.Splice.{splice}
 use Rattle.flat_world.specs.Memory.{IsLaid}
 use Rattle.flat_world.proofs.LaidLaws.{take-min, drop-min}

@@ -1,4 +1,4 @@
-use Rattle.std.proofs.Common.{◌≡◌, ◌∙◌, subst}
+use Rattle.std.proofs.Common.{◌∙◌, subst}
 use Rattle.argo_base.specs.Splice.{splice}
 use Rattle.flat_world.specs.Memory.{IsLaid}
 use Rattle.flat_world.proofs.memory.write_tx.Goals as goal

@@ -1,4 +1,4 @@
-use Rattle.std.proofs.Common.{◌≡◌, ◌+◌, ◌*◌, ◌≤◌, length, refl, sym, ap, ◌∙◌, subst, arith}
+use Rattle.std.proofs.Common.{◌+◌, length, refl, sym, ap, ◌∙◌, subst, arith}
 use Rattle.argo_base.specs.Layout.{addr_bytes, message_head_bytes}
 use Rattle.argo_base.specs.Slots.{place_after}
 use Rattle.argo_model.specs.Rules.RingBytes.{write_slots}

@@ -1,4 +1,4 @@
-use Rattle.std.proofs.Common.{◌≡◌, ◌+◌, ◌*◌, ◌/◌, ◌≤◌, ◌∙◌, IsTrue, length, ap, sym, subst, arith}
+use Rattle.std.proofs.Common.{◌≡◌, ◌+◌, ◌/◌, ◌∙◌, IsTrue, length, ap, sym, subst, arith}
 use Rattle.argo_base.proofs.SpliceLaws.{length-splice}
 use Rattle.flat_world.specs.Memory.{stand_in}
 use Rattle.flat_world.proofs.LiveLaws.{put_stands}

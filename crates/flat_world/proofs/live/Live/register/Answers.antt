@@ -1,4 +1,4 @@
-use Rattle.std.proofs.Common.{◌≡◌, true, false, sym, ap, ◌∙◌}
+use Rattle.std.proofs.Common.{◌≡◌, true, sym, ap, ◌∙◌}
 use Rattle.argo_model.specs.Rules.State.{Live}
 use Rattle.argo_model.specs.Rules.Effects.{Change, after}
 use Rattle.argo_model.specs.Rules.Register.{are_free_for}

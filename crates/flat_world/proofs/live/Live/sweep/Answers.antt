@@ -1,18 +1,16 @@
-use Rattle.std.proofs.Common.{◌≡◌, ℕ, ◌/◌, ◌+◌, ◌*◌, ◌≤◌, IsTrue, List, length, map, Option, Some, None, option_map, refl, sym, ap, ◌∙◌, subst, arith, rules}
+use Rattle.std.proofs.Common.{◌≡◌, ◌/◌, IsTrue, length, Some, None, refl, sym, ap, ◌∙◌, subst}
 use Rattle.std.specs.Option.{option_copied_mut}
-use Rattle.std.specs.Map.{lookup, set_value, keys_of}
-use Rattle.std.specs.List.Sorted.{IsStrictlySortedBy}
+use Rattle.std.specs.Map.{lookup}
 use Rattle.std.specs.BTreeMap.{is_at}
-use Rattle.argo_base.specs.declared.ring_key.RingKey.{RingKey}
-use Rattle.argo_base.specs.Match.{key_cmp, match_of}
-use Rattle.argo_model.specs.Rules.State.{Ring, Live}
-use Rattle.argo_model.specs.Rules.Effects.{Change, after}
-use Rattle.argo_model.specs.Rules.RingBytes.{PagedRing, paged, with_notices, laid}
+use Rattle.argo_base.specs.Match.{key_cmp}
+use Rattle.argo_model.specs.Rules.State.{Live}
+use Rattle.argo_model.specs.Rules.Effects.{after}
+use Rattle.argo_model.specs.Rules.RingBytes.{PagedRing, paged}
 use Rattle.flat_world.specs.Memory.{are_there, stand_in}
 use Rattle.flat_world.proofs.LiveLaws.{found_stands, written_stands, lifted_after, ring_written, ring_back, in_any_case}
 use Rattle.flat_world.proofs.OfferLaws.{memory_kept}
 use Rattle.argo_model.specs.Rules.Sweep.{next_ring, sweep_found, sweep_ring}
-use Rattle.flat_world.proofs.NextRingLaws.{key_next, next_at, next_is_there}
+use Rattle.flat_world.proofs.NextRingLaws.{next_at, next_is_there}
 use Rattle.flat_world.proofs.live.Live.sweep.Goals as goal
 use Rattle.flat_world.proofs.live.Live.sweep.Goals.{In_default-get_mut}
 

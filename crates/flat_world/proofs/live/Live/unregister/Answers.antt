@@ -1,4 +1,4 @@
-use Rattle.std.proofs.Common.{◌≡◌, ◌/◌, IsTrue, length, sym, subst}
+use Rattle.std.proofs.Common.{◌/◌, IsTrue, length, sym, subst}
 use Rattle.std.specs.BTreeMap.{is_at}
 use Rattle.argo_base.specs.Match.{key_cmp}
 use Rattle.argo_model.specs.Rules.State.{Ring}

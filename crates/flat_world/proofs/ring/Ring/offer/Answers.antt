@@ -1,4 +1,4 @@
-use Rattle.std.proofs.Common.{◌≡◌, ℕ, false, true, not, ◌&&◌, length, refl, sym, ap, ◌∙◌}
+use Rattle.std.proofs.Common.{◌≡◌, false, true, not, ◌&&◌, length, sym, ap, ◌∙◌}
 use Rattle.argo_base.specs.Slots.{fits, is_too_big}
 use Rattle.argo_model.specs.Rules.Deliver.{Offer, message_of, bytes_with}
 use Rattle.argo_model.specs.Rules.RingBytes.{paged, free, laid}

@@ -1,4 +1,4 @@
-use Rattle.std.proofs.Common.{◌≡◌, ◌<◌, length, ap, ◌∙◌, arith}
+use Rattle.std.proofs.Common.{ap, ◌∙◌, arith}
 use Rattle.argo_model.specs.Rules.Register.{resized}
 use Rattle.flat_world.specs.Starts.{start_on, memory_with_start}
 use Rattle.flat_world.proofs.RegisterLaws.{start_laid}

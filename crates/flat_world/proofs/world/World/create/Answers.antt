@@ -1,4 +1,4 @@
-use Rattle.std.proofs.Common.{◌≡◌, ℕ, ◌^◌, ◌<◌, Some, true, is_some, is_none, option_and_then, sym, ap, ◌∙◌, arith}
+use Rattle.std.proofs.Common.{◌≡◌, ℕ, ◌^◌, Some, true, is_some, is_none, option_and_then, sym, ap, ◌∙◌, arith}
 use Rattle.std.specs.Option.{option_copied_mut}
 use Rattle.argo_base.specs.declared.errno.Errno.TheVariants.{Srch, Exist}
 use Rattle.argo_model.specs.declared.action.Outcome.TheVariants.{Done, Refused}

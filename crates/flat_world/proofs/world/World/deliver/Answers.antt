@@ -1,15 +1,14 @@
-use Rattle.std.proofs.Common.{◌≡◌, ℕ, List, [], Some, None, true, false, not, sym, ap, ◌∙◌}
+use Rattle.std.proofs.Common.{◌≡◌, Some, None, not, sym, ap, ◌∙◌}
 use Rattle.std.specs.Option.{option_copied_mut}
 use Rattle.argo_base.specs.declared.errno.Errno.TheVariants.{Srch, NoDev, ConnRefused}
 use Rattle.argo_model.specs.declared.action.Outcome.TheVariants.{Refused}
-use Rattle.argo_model.specs.declared.action.Action.TheVariants.{Query, Deliver}
-use Rattle.argo_model.specs.declared.scripts.Actor.TheVariants.{Vcpu}
-use Rattle.argo_model.specs.Rules.State.{State, Domain, Live, domain_of, set_domain, signal_all, life_in, is_alive}
-use Rattle.argo_model.specs.Rules.Effects.{Change, Effect, change_in, refuse_if}
-use Rattle.flat_world.specs.Own.{own_if_live, with_left}
-use Rattle.flat_world.specs.World.{accepted_signals, caller_on, partner_for}
+use Rattle.argo_model.specs.declared.action.Action.TheVariants.{Deliver}
+use Rattle.argo_model.specs.Rules.State.{Live, domain_of, set_domain, signal_all}
+use Rattle.argo_model.specs.Rules.Effects.{Change, change_in, refuse_if}
+use Rattle.flat_world.specs.Own.{with_left}
+use Rattle.flat_world.specs.World.{accepted_signals, caller_on}
 use Rattle.flat_world.proofs.LiveLaws.{in_any_case}
-use Rattle.flat_world.proofs.WorldLaws.{set_domain-same, changed, own_acts, young_found, young_enough, calls, query_quiet, offer_signals_accepted}
+use Rattle.flat_world.proofs.WorldLaws.{set_domain-same, changed, calls, offer_signals_accepted}
 use Rattle.argo_model.specs.Rules.Deliver.{Offer, offer_to_domain}
 use Rattle.flat_world.proofs.world.World.deliver.Goals as goal
 

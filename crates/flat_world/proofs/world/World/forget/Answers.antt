@@ -1,4 +1,4 @@
-use Rattle.std.proofs.Common.{◌∙◌, ap, map, rules}
+use Rattle.std.proofs.Common.{◌∙◌, ap, rules}
 use Rattle.std.proofs.lemmas.Map.Made.{map_same_pairs}
 use Rattle.argo_model.specs.Rules.Destroy.{forget, live_without}
 use Rattle.argo_model.specs.Rules.State.{change_life}

@@ -1,14 +1,10 @@
-use Rattle.std.proofs.Common.{◌≡◌, ℕ, ◌^◌, List, [], Some, None, true, false, not, sym, ap, ◌∙◌}
+use Rattle.std.proofs.Common.{◌≡◌, ◌^◌, Some, sym, ap, ◌∙◌}
 use Rattle.std.specs.Option.{option_copied_mut}
-use Rattle.argo_base.specs.declared.errno.Errno.TheVariants.{Srch, NoDev}
-use Rattle.argo_model.specs.declared.action.Action.TheVariants.{Query, Deliver}
-use Rattle.argo_model.specs.declared.scripts.Actor.TheVariants.{Vcpu}
-use Rattle.argo_model.specs.Rules.State.{State, Domain, Live, domain_of, set_domain, signal_all, life_in, is_alive}
-use Rattle.argo_model.specs.Rules.Effects.{Change, Effect, change_in, refuse_if}
+use Rattle.argo_model.specs.Rules.State.{Live, domain_of, set_domain, signal_all, life_in}
+use Rattle.argo_model.specs.Rules.Effects.{Change, change_in}
 use Rattle.flat_world.specs.Own.{own_if_live, with_left}
-use Rattle.flat_world.specs.World.{accepted_signals, partner_for}
 use Rattle.flat_world.proofs.LiveLaws.{in_any_case}
-use Rattle.flat_world.proofs.WorldLaws.{set_domain-same, changed, own_acts, young_found, young_enough, calls, query_quiet, offer_signals_accepted}
+use Rattle.flat_world.proofs.WorldLaws.{set_domain-same, changed, own_acts, young_found, young_enough}
 use Rattle.flat_world.proofs.world.World.own_act.Goals as goal
 
 pub act-requires-clause-young : goal.act-requires-clause-young
