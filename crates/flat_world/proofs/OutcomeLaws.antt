@@ -19,11 +19,11 @@ use Rattle.argo_model.specs.declared.action.Load.{Load}
 use Rattle.argo_model.specs.declared.action.Load.TheVariants.{Body, Faulted, Refused as RefusedLoad}
 use Rattle.argo_model.specs.declared.action.Outcome.{Outcome}
 use Rattle.argo_model.specs.declared.action.Outcome.TheVariants.{Done, Bytes, Fault, Refused, Answer as Answered}
-use Rattle.argo_model.specs.Rules.State.{State, Domain, Live, Ring, domain_of, life_in, has_page, is_alive, is_on, change_domain}
+use Rattle.argo_model.specs.Rules.State.{State, Domain, Live, Ring, domain_of, life_in, has_page, is_alive, is_on}
 use Rattle.argo_model.specs.Rules.Limits.{most_rings}
 use Rattle.argo_model.specs.Rules.Effects.{Change, answered, refused, refuse_if}
 use Rattle.argo_model.specs.Rules.RingBytes.{PagedRing, paged, free}
-use Rattle.argo_model.specs.Rules.Register.{register, register_own, register_allowed, register_anew, stands_so, own_ring, has_ring, is_single, are_free_for, unregister_own}
+use Rattle.argo_model.specs.Rules.Register.{register, register_allowed, register_anew, stands_so, own_ring, has_ring, is_single, are_free_for}
 use Rattle.argo_model.specs.Rules.Deliver.{Offer, offer_load, offer_to_match, offer_to_life, offer_to_domain, accepted, if_it_fits, wait_for_room, message_of}
 use Rattle.argo_model.specs.Rules.Sweep.{sweep_found, next_ring, least_serial}
 use Rattle.argo_model.specs.Rules.Query.{query_match, query_life, query_domain, no_answer}
@@ -31,7 +31,8 @@ use Rattle.argo_model.specs.Rules.Destroy.{destroy, reset, create}
 use Rattle.argo_model.specs.Rules.Act.{act, act_of, act_if_live, act_if_there, act_of_control}
 use Rattle.argo_model.specs.Rules.Fit.{is_fit, is_fit_for, needs_no_caller}
 use Rattle.argo_model.specs.Rules.Outcomes.{can_have, is_delivered}
-use Rattle.flat_world.proofs.TestLaws.{both, le_from}
+use Rattle.flat_world.proofs.LaidLaws.{both}
+use Rattle.flat_world.proofs.TestLaws.{le_from}
 
 -- a fetch lies inside a page
 abbrev FetchesInPage : Action → Type 0

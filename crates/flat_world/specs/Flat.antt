@@ -1,5 +1,5 @@
 -- What contracts see of the world, and what always holds of it.
-use Rattle.std.specs.Prelude.{◌≡◌, ℕ, ◌+◌, ◌*◌, ◌^◌, ◌≤◌, List, length, map, sum_by, slice_get, Some, All}
+use Rattle.std.specs.Prelude.{◌≡◌, ℕ, ◌+◌, ◌*◌, ◌^◌, ◌≤◌, List, length, sum_by, All}
 use Rattle.argo_model.specs.declared.scripts.Actor.{Actor}
 use Rattle.argo_model.specs.declared.closing.Totals.{Totals}
 use Rattle.argo_model.specs.Rules.State.{State}

@@ -6,26 +6,24 @@ ghost use Rattle.flat_world.specs.Shown.{are_shown};
 
 use crate::domain::Domain;
 use crate::ring::Ring;
+use crate::world::World;
 use argo_base::{Bytes, DomId, Message, Messages, NoMemory, PageList, RingKey};
-use argo_model::{
-    ClosedDomain, ClosedDomains, ClosedRing, ClosedRings,
-};
+use argo_model::{ClosedDomain, ClosedDomains, ClosedRing, ClosedRings};
 use std::alloc::Global;
 use std::collections::BTreeMap;
 
-/// A row for each domain.
-pub(crate) fn closed_of(
-    alloc: Global,
-    domains: &BTreeMap<DomId, Domain>,
-) -> Result<ClosedDomains, NoMemory>
-    requires { IsTrue (are_shown domains.now.entries) }
-    ensures { IfOk result (λ closed. closed ≡ closed_domains domains.now.entries) }
-{
-    let mut closed = ClosedDomains::new(alloc);
-    for (id, domain) in domains {
-        closed.push(domain_of(alloc, *id, domain)?)?;
+impl World {
+    /// A row for each domain.
+    pub(crate) fn closed(&self, alloc: Global) -> Result<ClosedDomains, NoMemory>
+        requires { IsTrue (are_shown self.now) }
+        ensures { IfOk result (λ closed. closed ≡ closed_domains self.now) }
+    {
+        let mut closed = ClosedDomains::new(alloc);
+        for (id, domain) in &self.domains {
+            closed.push(domain_of(alloc, *id, domain)?)?;
+        }
+        Ok(closed)
     }
-    Ok(closed)
 }
 
 fn domain_of(alloc: Global, id: DomId, domain: &Domain) -> Result<ClosedDomain, NoMemory>

@@ -6,7 +6,6 @@ ghost use Rattle.argo_model.specs.Runs.Closed.{closed_domains};
 ghost use Rattle.argo_model.specs.Runs.Final.{final_domain, no_steps, totals_after};
 ghost use Rattle.flat_world.specs.Flat.{IsSmall, steps_of};
 
-use crate::closed_domains::closed_of;
 use crate::finals::finals_of;
 use crate::world::World;
 use argo_base::NoMemory;
@@ -79,7 +78,7 @@ impl FlatWorld {
         requires { steps_of self.now.totals < 2 ^ 32 - 1 }
         ensures { IfOk result (λ domains. domains ≡ closed_domains self.now.state) }
     {
-        closed_of(self.alloc, &self.world.domains)
+        self.world.closed(self.alloc)
     }
 
     /// What a report shows of the domains, and the totals of each section. Where memory runs out, the world is lost.
