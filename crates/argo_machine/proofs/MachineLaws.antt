@@ -23,7 +23,7 @@ use Rattle.argo_model.specs.Runs.Script.{Section}
 use Rattle.argo_model.specs.Runs.Run.{Progress, Step, Course, Turn, turn, next_turn, step_of, after_turn, step, start, at_first_line, has_lines, is_unfinished}
 use Rattle.argo_model.specs.Runs.Final.{grown, runs_of, schedule_of, done_at, done_of, totals_of, accepted_size, is_accepted, size_or_none, totals_after, done_lines, no_steps}
 use Rattle.vcpu_machine.specs.Vcpu.{VcpuAt, StandsAt, GoesOn, TakesTurn, lines_left, left_of}
-use Rattle.flat_world.specs.World.{WorldAt}
+use Rattle.flat_world.specs.Flat.{WorldAt}
 use Rattle.argo_machine.specs.Kept.{AllStand, sections_of, actor_of, all_left, KeepsCourse}
 use Rattle.argo_machine.specs.Machine.{script_of}
 use Rattle.argo_machine.specs.Vcpus.{AreVcpusOf, most_of}

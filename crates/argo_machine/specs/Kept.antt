@@ -9,7 +9,7 @@ use Rattle.argo_model.specs.Runs.Script.{Section}
 use Rattle.argo_model.specs.Runs.Run.{Course, Progress, is_open, step, next_turn}
 use Rattle.argo_model.specs.Runs.Final.{runs_of, schedule_of, done_of, totals_of}
 use Rattle.vcpu_machine.specs.Vcpu.{VcpuAt, StandsAt, left_of}
-use Rattle.flat_world.specs.World.{WorldAt}
+use Rattle.flat_world.specs.Flat.{WorldAt}
 use Rattle.argo_machine.specs.declared.machine.Kept.{Kept}
 use Rattle.argo_machine.specs.Replies.{KeepsSteps}
 
