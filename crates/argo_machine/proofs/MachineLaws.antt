@@ -177,7 +177,6 @@ done_of-one v line a o (Some r) = refl
 zero_add : (n : ℕ) → 0 + n ≡ n
 zero_add n = omega arith
 
-
 some-number : (a b : ℕ) → Some b ≡ Some a → a ≡ b
 some-number a b e = cc
 

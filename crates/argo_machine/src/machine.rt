@@ -11,9 +11,7 @@ use crate::books::Books;
 use crate::replies::heard_of_all;
 use crate::vcpus::vcpus_of;
 use argo_base::NoMemory;
-use argo_model::{
-    ClosedDomains, DomainLines, DoneList, Final, Heard, Outcome, Runs, Scripts,
-};
+use argo_model::{ClosedDomains, DomainLines, DoneList, Final, Heard, Outcome, Runs, Scripts};
 use flat_world::FlatWorld;
 use std::alloc::Global;
 use std::marker::Model;
