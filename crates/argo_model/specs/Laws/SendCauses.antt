@@ -1,5 +1,6 @@
--- Why a send has its reply: each reply of sendv has one cause in what the steps of the line looked at.
-use Rattle.std.specs.Prelude.{ℕ, ◌+◌, ◌*◌, ◌^◌, Bool, ◌&&◌, ◌||◌, not, nat_lt, nat_le, if◌then◌else◌, List, [], ◌∷◌, ◌++◌, length, map, take, drop, is_none, unwrap_or, Option, Some, None, option_map, option_and_then, pos, neg_ℤ, Result, Ok, Err}
+-- Why a send has its reply: each reply of sendv has one cause in what the steps of the line looked at. And what the send has then done:
+-- a count says that the message stands for what was fetched, and -11 that the caller waits on the ring that it met.
+use Rattle.std.specs.Prelude.{◌≡◌, ℕ, ◌+◌, ◌*◌, ◌^◌, Bool, false, ◌&&◌, ◌||◌, not, nat_lt, nat_le, if◌then◌else◌, List, [], ◌∷◌, ◌++◌, length, map, take, drop, is_none, IsTrue, IsSomeAnd, unwrap_or, Option, Some, None, option_map, option_and_then, pos, neg_ℤ, Result, Ok, Err}
 use Rattle.std.specs.List.{list_any, last_or}
 use Rattle.argo_base.specs.declared.errno.Errno.{Errno}
 use Rattle.argo_base.specs.declared.errno.Errno.TheVariants.{Perm, Srch, Again, Fault as efault, Busy, NoDev, Inval, MsgSize, ConnRefused}
@@ -13,12 +14,14 @@ use Rattle.argo_base.specs.Iovs.{Iov, iovs_at, verdict_of, gathered_pieces}
 use Rattle.argo_model.specs.declared.reply.Reply.{Reply}
 use Rattle.argo_model.specs.declared.reply.Reply.TheVariants.{Number, Gone}
 use Rattle.argo_model.specs.Rules.State.{Live, State, live_of, is_alive, is_on, has_page}
-use Rattle.argo_base.specs.Notices.{is_busy}
+use Rattle.argo_base.specs.Notices.{is_busy, size_of}
 use Rattle.argo_model.specs.Rules.RingBytes.{free}
 use Rattle.argo_model.specs.Rules.Matches.{RingAt, match_at, paged_at}
 use Rattle.argo_model.specs.Programs.Send.{is_send_addr, is_own_source}
 use Rattle.argo_model.specs.Rules.Outcomes.{is_gone}
 use Rattle.argo_model.specs.Laws.Transitions.{Transition}
+use Rattle.argo_model.specs.Laws.RingNames.{RingName, name_of, has_name}
+use Rattle.argo_model.specs.Laws.Taken.{is_there_and, brought_by}
 
 -- the arguments of a send: of the addresses, of the iovs and their count, and the type of the message
 pub record Send : Type 0 where
@@ -82,9 +85,13 @@ address_of l = unwrap_or l.address []
 abbrev pub receiver_of : Looked → ℕ
 receiver_of l = u16_at (address_of l) 12
 
--- the ring that it meets there
+-- the ring that it meets there in a state
+abbrev pub met_in : Send → Looked → State → Option RingAt
+met_in x l s = match_at s (receiver_of l) (u32_at (address_of l) 8) x.caller
+
+-- the ring that it meets at the delivery
 abbrev pub ring_of : Send → Looked → Option RingAt
-ring_of x l = match_at l.state (receiver_of l) (u32_at (address_of l) 8) x.caller
+ring_of x l = met_in x l l.state
 
 -- the message that it brings: the bytes that were fetched, under the caller's domain and the port that the caller named
 abbrev pub message_in : Send → Looked → Message
@@ -129,7 +136,42 @@ cause_of x l =
     row (not (is_on l.state x.caller)) NoDev (
     cause_at_match x l (ring_of x l))))))))
 
+-- what the steps of a send's line looked at
+abbrev pub looked_by : Send → List Transition → Looked
+looked_by x transitions = looked_at x (map (λ d. d.before) transitions)
+
 -- the reply of a send by the steps of its line: `gone` where an outcome was that, and else its cause
 abbrev pub reply_of_send : Send → List Transition → Reply
 reply_of_send x transitions =
-    if list_any (λ d. is_gone d.step.outcome) transitions then Gone else cause_of x (looked_at x (map (λ d. d.before) transitions))
+    if list_any (λ d. is_gone d.step.outcome) transitions then Gone else cause_of x (looked_by x transitions)
+
+-- a ring of this name has a notice of the domain, for n bytes or more
+abbrev pub waits_on : RingName → ℕ → ℕ → RingAt → Bool
+waits_on name d n m = has_name name m && unwrap_or (option_map (nat_le n) (size_of m.ring.notices d)) false
+
+-- the verdict on a send's iovs was a size, and in the state after the delivery the caller waits for room for that size or more, on
+-- the ring that it met there and still meets
+abbrev pub waits_for_size : Send → Looked → State → RingAt → Result ℕ Errno → Bool
+waits_for_size x l after m (Err e) = false
+waits_for_size x l after m (Ok n) = is_there_and (waits_on (name_of m) x.caller n) (met_in x l after)
+
+-- after the delivery the caller's notice stands on the ring that it met, with no smaller size than the body's
+abbrev pub is_noted : Send → Looked → State → Bool
+is_noted x l after = is_there_and (λ m. waits_for_size x l after m (verdict_of (iovs_in x l.list))) (ring_of x l)
+
+-- the step brought the message of the send, with a body of n bytes, into the ring that the send met
+pub record BringsMessage (x : Send) (l : Looked) (t : Transition) (n : ℕ) : Type 0 where
+  pub brought : IsSomeAnd (ring_of x l) (λ m. brought_by (name_of m) t ≡ Some (message_in x l))
+  pub size : length (message_in x l).body ≡ n
+
+-- what holds of the count that a reply is; of another reply nothing is said
+abbrev pub IfCount : Reply → (ℕ → Type 0) → Type 0
+IfCount (Number (pos n)) P = P n
+IfCount r P = Unit {0}
+
+-- what a send with these steps and this reply has come to: the reply is its cause's; after -11 the caller is noted by the last step;
+-- and a count says that the last step brought the message, of that many bytes
+pub record SendHasCause (x : Send) (transitions : List Transition) (r : Reply) : Type 0 where
+  pub reply : r ≡ reply_of_send x transitions
+  pub noted : r ≡ says Again → IsSomeAnd (last_or None transitions) (λ t. IsTrue (is_noted x (looked_by x transitions) t.after))
+  pub brought : IfCount r (λ n. IsSomeAnd (last_or None transitions) (λ t. BringsMessage x (looked_by x transitions) t n))
