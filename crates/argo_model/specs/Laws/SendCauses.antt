@@ -20,8 +20,8 @@ use Rattle.argo_model.specs.Rules.Matches.{RingAt, match_at, paged_at}
 use Rattle.argo_model.specs.Programs.Send.{is_send_addr, is_own_source}
 use Rattle.argo_model.specs.Rules.Outcomes.{is_gone}
 use Rattle.argo_model.specs.Laws.Transitions.{Transition}
-use Rattle.argo_model.specs.Laws.RingNames.{RingName, name_of, has_name}
-use Rattle.argo_model.specs.Laws.Taken.{is_there_and, brought_by}
+use Rattle.argo_model.specs.Laws.RingNames.{RingName, name_of, has_name, is_there_and}
+use Rattle.argo_model.specs.Laws.Taken.{brought_by}
 
 -- the arguments of a send: of the addresses, of the iovs and their count, and the type of the message
 pub record Send : Type 0 where
