@@ -5,7 +5,7 @@ pub mod ListLaws
 pub mod MovedLaws
 pub mod NotifyLaws
 pub mod RangeLaws
-pub mod ReceiveLaws
+pub mod ReceivingLaws
 pub mod RegisterLaws
 pub mod SendLaws
 pub mod TestLaws

@@ -7,12 +7,11 @@ use Rattle.vcpu_machine.specs.declared.ranges.Moved.TheVariants.{More, Whole, Fa
 use Rattle.vcpu_machine.specs.declared.phase.Phase.TheVariants.{Reading, Writing}
 use Rattle.vcpu_machine.specs.declared.phase.Followed.{Followed}
 use Rattle.vcpu_machine.specs.declared.phase.Followed.TheVariants.{To}
-use Rattle.vcpu_machine.specs.Cursor.{pieces_left}
 use Rattle.vcpu_machine.specs.declared.phase.Text.{Text}
 use Rattle.vcpu_machine.specs.declared.phase.Reader.{Reader}
 use Rattle.vcpu_machine.specs.Ranges.{PutMoves, FetchMoves, IsNearer, IsCounted}
 use Rattle.vcpu_machine.specs.Text.{text_of, after_put, if_not_put, most_after_put}
-use Rattle.vcpu_machine.specs.Reader.{after_read, after_fault, HasSize, KeepsUse, most_after}
+use Rattle.vcpu_machine.specs.Reader.{after_read, after_fault, HasSize, most_after}
 use Rattle.vcpu_machine.specs.Phase.{IsWriting, IsReading}
 use Rattle.vcpu_machine.specs.Followed.{Leads, Follows}
 use Rattle.vcpu_machine.proofs.RangeLaws.{some_piece}
@@ -26,16 +25,16 @@ put_whole line c d text o on at moves h = record {
   nearer = let some = some_piece c at.some at.sound in let few = h.few in omega (arith, some);
 }
 
--- a piece of a range is fetched, and others are to come, after bytes of the same use
-pub fetch_more : (line : Line) (c d : Cursor) (got : Vec ℕ Global) (new : List ℕ) (kept : Vec ℕ Global) (reader : Reader) (o : Outcome) → IsReading c (length got.items) reader
-    → FetchMoves c got.items o More d new → IsNearer More c d → IsCounted More (length got.items) c.left (length new) d.left → KeepsUse reader new kept.items
-    → ((n : ℕ) → HasSize (length new + n) reader → HasSize (length kept.items + n) reader) → Follows line (Reading c got reader) o (To (Reading d kept reader))
-fetch_more line c d got new kept reader o at moves nearer counted same size = record {
-  rest = λ os. moves (after_fault reader) (after_read reader) os ∙ sym (same (pieces_left d) (after_fault reader) os);
+-- a piece of a range is fetched, and others are to come
+pub fetch_more : (line : Line) (c d : Cursor) (got : Vec ℕ Global) (new : Vec ℕ Global) (reader : Reader) (o : Outcome) → IsReading c (length got.items) reader
+    → FetchMoves c got.items o More d new.items → IsNearer More c d → IsCounted More (length got.items) c.left (length new.items) d.left
+    → Follows line (Reading c got reader) o (To (Reading d new reader))
+fetch_more line c d got new reader o at moves nearer counted = record {
+  rest = λ os. moves (after_fault reader) (after_read reader) os;
   ready = record {
     some = nearer.0;
     sound = nearer.3;
-    size = let P : ℕ → Type 0 = λ n. HasSize n reader in size d.left (subst P (sym counted) at.size);
+    size = let P : ℕ → Type 0 = λ n. HasSize n reader in subst P (sym counted) at.size;
     ready = at.ready;
   };
   nearer = omega arith;

@@ -17,7 +17,8 @@ use Rattle.argo_model.specs.Rules.Outcomes.{can_have}
 use Rattle.vcpu_machine.specs.Ranges.{collect, GivesFirst}
 use Rattle.argo_model.specs.Programs.Program.{Next, Do, Rests, put_all, fetch_all}
 use Rattle.argo_model.specs.Programs.Send.{gather}
-use Rattle.vcpu_machine.specs.Phase.{CanFollow, takes_none}
+use Rattle.argo_model.specs.Programs.Asks.{CanFollow}
+use Rattle.vcpu_machine.specs.Phase.{takes_none}
 
 -- an outcome other than `Done` and `Gone` ends a put
 put_refused : (o : Outcome) (p : Piece) (ps : List Piece) (bytes : List ℕ) (failed : Next) (k : Rests) (os : List Outcome) → o ≢ Done → o ≢ Gone → put_all (p ∷ ps) bytes failed k (o ∷ os) ≡ failed

@@ -7,7 +7,6 @@ pub mod Phase
 pub mod Question
 pub mod Ranges
 pub mod Reader
-pub mod Receiving
 pub mod Registering
 pub mod Sending
 pub mod Steps

@@ -3,7 +3,7 @@ use Rattle.std.specs.Prelude.{◌≡◌, ℕ, ◌+◌, ◌-◌, min, ◌<◌, �
 use Rattle.vcpu_machine.specs.declared.cursor.Cursor.{Cursor}
 use Rattle.vcpu_machine.specs.Cursor.{pieces_left, IsSound}
 use Rattle.vcpu_machine.specs.declared.phase.Phase.{Phase}
-use Rattle.vcpu_machine.specs.declared.phase.Phase.TheVariants.{Reading, Writing, Asking, Ended}
+use Rattle.vcpu_machine.specs.declared.phase.Phase.TheVariants.{Reading, Writing, Asking, Receiving, Ended}
 use Rattle.vcpu_machine.specs.declared.phase.Reader.{Reader}
 use Rattle.vcpu_machine.specs.declared.phase.Text.{Text}
 use Rattle.argo_model.specs.declared.line.Line.{Line}
@@ -12,10 +12,11 @@ use Rattle.argo_model.specs.declared.scripts.Actor.TheVariants.{Vcpu, Control}
 use Rattle.argo_model.specs.declared.action.Action.TheVariants.{Rest, Look, Sweep}
 use Rattle.argo_model.specs.declared.action.Outcome.{Outcome}
 use Rattle.argo_model.specs.declared.reply.Reply.{Reply}
-use Rattle.argo_model.specs.Rules.Outcomes.{can_have}
 use Rattle.argo_model.specs.Runs.Script.{is_vcpu_line, is_control_line}
 use Rattle.vcpu_machine.specs.Ranges.{last_of, collect}
 use Rattle.argo_model.specs.Programs.Program.{Next, Do, Say, Rests, ask, put_all, program}
+use Rattle.argo_model.specs.Programs.Recv.{say_found}
+use Rattle.guest_lib.specs.Receiving.{ahead, IsUnderWay, left_of}
 use Rattle.vcpu_machine.specs.Reader.{after_read, after_fault, HasSize, IsReader, most_after}
 use Rattle.vcpu_machine.specs.Text.{text_of, after_put, if_not_put, IsText, most_after_put}
 use Rattle.vcpu_machine.specs.Question.{action_of, answered_by, IsQuestion, most_after_answer}
@@ -25,6 +26,7 @@ abbrev pub rest_of : Line → Phase → Rests
 rest_of line (Reading c got reader) os = collect (pieces_left c) got.items (after_fault reader) (after_read reader) os
 rest_of line (Writing c text) os = put_all (pieces_left c) (last_of c.left (text_of line text)) (if_not_put text) (after_put text) os
 rest_of line (Asking q) os = ask (action_of q) (answered_by q) os
+rest_of line (Receiving r) os = ahead say_found r os
 rest_of line Ended os = Do Rest
 
 -- a range is to be fetched, beside so many bytes that were
@@ -46,12 +48,8 @@ abbrev pub IsAtPhase : Line → Phase → Type 0
 IsAtPhase line (Reading c got reader) = IsReading c (length got.items) reader
 IsAtPhase line (Writing c text) = IsWriting line c text
 IsAtPhase line (Asking q) = IsQuestion q
+IsAtPhase line (Receiving r) = IsUnderWay r
 IsAtPhase line Ended = ⊥
-
--- the outcome is one that the next action can have
-abbrev pub CanFollow : Next → Outcome → Type 0
-CanFollow (Do a) o = IsTrue (can_have a o)
-CanFollow (Say reply) o = ⊥
 
 -- the next action is a look or a sweep, which takes no memory
 abbrev pub takes_none : Next → Bool
@@ -64,6 +62,7 @@ abbrev pub HasRoom : Phase → Type 0
 HasRoom (Reading c got reader) = vec_len got + min c.left (4096 - c.off) ≤ vec_capacity got
 HasRoom (Writing c text) = Unit {0}
 HasRoom (Asking q) = Unit {0}
+HasRoom (Receiving r) = IsTrue r.ready
 HasRoom Ended = Unit {0}
 
 -- how many actions are to come at most
@@ -71,6 +70,7 @@ abbrev pub phase_left : Phase → ℕ
 phase_left (Reading c got reader) = length (pieces_left c) + most_after reader
 phase_left (Writing c text) = length (pieces_left c) + most_after_put text
 phase_left (Asking q) = most_after_answer q + 1
+phase_left (Receiving r) = left_of r
 phase_left Ended = 0
 
 -- nothing that the line does is changed

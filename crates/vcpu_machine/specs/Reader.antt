@@ -1,17 +1,13 @@
 -- What follows a range that is fetched.
-use Rattle.std.specs.Prelude.{◌≡◌, ℕ, ◌+◌, List, length}
+use Rattle.std.specs.Prelude.{◌≡◌, ℕ, List}
 use Rattle.argo_base.specs.declared.errno.Errno.TheVariants.{Fault as efault}
-use Rattle.argo_base.specs.declared.piece.Piece.{Piece}
-use Rattle.argo_model.specs.declared.action.Outcome.{Outcome}
-use Rattle.vcpu_machine.specs.Ranges.{collect}
 use Rattle.vcpu_machine.specs.declared.phase.Reader.{Reader}
-use Rattle.vcpu_machine.specs.declared.phase.Reader.TheVariants.{Show, Register, Send, Notify, Recv}
+use Rattle.vcpu_machine.specs.declared.phase.Reader.TheVariants.{Show, Register, Send, Notify}
 use Rattle.argo_model.specs.declared.reply.Reply.TheVariants.{Hex, Fault}
 use Rattle.argo_model.specs.Programs.Asks.{Say, Rests, refusal}
 use Rattle.vcpu_machine.specs.Registering.{after_register_read, register_size, IsRegisterRead, most_after_register}
 use Rattle.vcpu_machine.specs.Notifying.{after_notify_read, notify_size, IsNotifyRead, most_after_notify}
 use Rattle.vcpu_machine.specs.Sending.{after_send_read, after_send_fault, send_size, IsSendRead, most_after_send}
-use Rattle.vcpu_machine.specs.Receiving.{after_recv_read, HasRecvSize, IsRecvRead, most_after_recv}
 
 -- what follows the bytes
 abbrev pub after_read : Reader → List ℕ → Rests
@@ -19,7 +15,6 @@ after_read Show bytes os = Say (Hex bytes)
 after_read (Register r) bytes os = after_register_read r bytes os
 after_read (Send r) bytes os = after_send_read r bytes os
 after_read (Notify r) bytes os = after_notify_read r bytes os
-after_read (Recv r) bytes os = after_recv_read r bytes os
 
 -- what follows a page that is not there
 abbrev pub after_fault : Reader → Rests
@@ -27,7 +22,6 @@ after_fault Show os = Say Fault
 after_fault (Register r) os = refusal efault
 after_fault (Send r) os = after_send_fault r os
 after_fault (Notify r) os = refusal efault
-after_fault (Recv r) os = Say Fault
 
 -- there are so many bytes; a load has any number of them
 abbrev pub HasSize : ℕ → Reader → Type 0
@@ -35,16 +29,6 @@ HasSize n Show = Unit {0}
 HasSize n (Register r) = n ≡ register_size r
 HasSize n (Send r) = n ≡ send_size r
 HasSize n (Notify r) = n ≡ notify_size r
-HasSize n (Recv r) = HasRecvSize n r
-
--- whatever comes behind them, other bytes are of the same use
-abbrev pub KeepsUse : Reader → List ℕ → List ℕ → Type 0
-KeepsUse reader old new =
-    (ps : List Piece) (failed : Rests) (os : List Outcome) → collect ps new failed (after_read reader) os ≡ collect ps old failed (after_read reader) os
-
--- whatever comes behind them, there are as many bytes as are wanted
-abbrev pub KeepsSize : Reader → List ℕ → List ℕ → Type 0
-KeepsSize reader old new = (n : ℕ) → HasSize (length old + n) reader → HasSize (length new + n) reader
 
 -- the parts of the reader are as they must be
 abbrev pub IsReader : Reader → Type 0
@@ -52,7 +36,6 @@ IsReader Show = Unit {0}
 IsReader (Register r) = IsRegisterRead r
 IsReader (Send r) = IsSendRead r
 IsReader (Notify r) = IsNotifyRead r
-IsReader (Recv r) = IsRecvRead r
 
 -- how many actions follow at most
 abbrev pub most_after : Reader → ℕ
@@ -60,4 +43,3 @@ most_after Show = 0
 most_after (Register r) = most_after_register r
 most_after (Send r) = most_after_send r
 most_after (Notify r) = most_after_notify r
-most_after (Recv r) = most_after_recv r

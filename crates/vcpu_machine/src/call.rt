@@ -8,13 +8,13 @@ ghost use Rattle.vcpu_machine.specs.Calls.{op_of, register_of, unregister_of, se
 ghost use Rattle.vcpu_machine.specs.Followed.{Leads};
 ghost use Rattle.vcpu_machine.specs.declared.phase.Followed.{Followed};
 
-use crate::blank::Blank;
 use crate::cursor::Cursor;
 use crate::phase::{Phase, Question, Reader};
 use crate::reading::reading;
 use crate::reads::{MOST_IOVS, RegisterRead, SendRead};
 use argo_base::{DomId, Errno};
 use argo_model::Actor;
+use std::alloc::Global;
 
 /// The rings that one notify sweeps at most.
 const MOST_SWEEPS: u32 = 128;
@@ -31,19 +31,19 @@ pub(crate) struct Call {
 
 impl Call {
     /// The phase at which the call of this command begins.
-    pub(crate) fn start(&self, blank: Blank, command: u64) -> Phase
+    pub(crate) fn start(&self, alloc: Global, command: u64) -> Phase
         ensures { Leads (op_of self.now command) 8700 (Followed.To result) }
     {
         match command {
-            1 => self.register_ring(blank),
-            2 => self.unregister_ring(blank),
-            3 => self.sendv(blank),
+            1 => self.register_ring(alloc),
+            2 => self.unregister_ring(alloc),
+            3 => self.sendv(alloc),
             4 => self.notify(),
             _ => refuse(Errno::OpNotSupp),
         }
     }
 
-    fn register_ring(&self, blank: Blank) -> Phase
+    fn register_ring(&self, alloc: Global) -> Phase
         ensures { Leads (register_of self.now) 13 (Followed.To result) }
     {
         if 1 < self.a4 {
@@ -54,20 +54,20 @@ impl Call {
             count: self.a3,
             flags: self.a4,
         };
-        reading(blank, Cursor::over(self.a1, 12), Reader::Register(read))
+        reading(alloc, Cursor::over(self.a1, 12), Reader::Register(read))
     }
 
-    fn unregister_ring(&self, blank: Blank) -> Phase
+    fn unregister_ring(&self, alloc: Global) -> Phase
         ensures { Leads (unregister_of self.now) 3 (Followed.To result) }
     {
         if self.has_more() {
             return refuse(Errno::Inval);
         }
         let read = RegisterRead::Old;
-        reading(blank, Cursor::over(self.a1, 8), Reader::Register(read))
+        reading(alloc, Cursor::over(self.a1, 8), Reader::Register(read))
     }
 
-    fn sendv(&self, blank: Blank) -> Phase
+    fn sendv(&self, alloc: Global) -> Phase
         ensures { Leads (send_of self.now) 4117 (Followed.To result) }
     {
         if (MOST_IOVS as u64) < self.a3 || 0x1_0000_0000 <= self.a4 {
@@ -79,7 +79,7 @@ impl Call {
             count: self.a3 as u32,
             kind: self.a4 as u32,
         };
-        reading(blank, Cursor::over(self.a1, 16), Reader::Send(read))
+        reading(alloc, Cursor::over(self.a1, 16), Reader::Send(read))
     }
 
     fn notify(&self) -> Phase

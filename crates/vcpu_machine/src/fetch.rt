@@ -10,11 +10,11 @@ ghost use Rattle.vcpu_machine.specs.Phase.{IsReading};
 ghost use Rattle.vcpu_machine.specs.Followed.{Follows};
 ghost use Rattle.argo_model.specs.declared.line.Line.{Line as AnyLine};
 
-use crate::blank::Blank;
 use crate::cursor::Cursor;
 use crate::phase::{Followed, Phase, Reader};
 use crate::ranges::{Moved, fetch_moved};
 use argo_model::{Action, Outcome, Reply};
+use std::alloc::Global;
 
 /// The fetch of the first piece of what is left of a range.
 pub(crate) fn fetch_first(rest: Cursor) -> Action
@@ -33,7 +33,7 @@ pub(crate) fn fetch_first(rest: Cursor) -> Action
 
 /// Where a line goes that fetches, with an outcome of the first piece.
 pub(crate) fn fetched(
-    blank: Blank,
+    alloc: Global,
     rest: Cursor,
     got: Vec<u8>,
     reader: Reader,
@@ -47,11 +47,8 @@ pub(crate) fn fetched(
     let mut rest = rest;
     let mut got = got;
     match fetch_moved(&mut rest, &mut got, outcome) {
-        Moved::More => {
-            reader.trim(&mut got);
-            Followed::To(Phase::Reading { rest, got, reader })
-        }
-        Moved::Whole => reader.used(blank, got),
+        Moved::More => Followed::To(Phase::Reading { rest, got, reader }),
+        Moved::Whole => reader.used(alloc, got),
         Moved::Failed => reader.failed(),
         Moved::Ended => Followed::Over(Reply::Gone),
     }

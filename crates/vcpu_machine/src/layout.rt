@@ -2,13 +2,12 @@
 
 ghost use Rattle.std.specs.Prelude.{◌≡◌, ◌+◌, ◌*◌, ◌≤◌, length, IfOk};
 ghost use Rattle.argo_base.specs.Iovs.{iov_at};
-ghost use Rattle.argo_base.specs.Layout.{u32_at, u64_at, numbers_at, answer_bytes};
-ghost use Rattle.argo_abi.specs.Structures.{register_ring_of, unregister_ring_of, send_addr_of, ring_data_of, ring_data_entry_of, message_head_of};
+ghost use Rattle.argo_base.specs.Layout.{u64_at, numbers_at, answer_bytes};
+ghost use Rattle.argo_abi.specs.Structures.{register_ring_of, unregister_ring_of, send_addr_of, ring_data_of, ring_data_entry_of};
 
 use argo_abi::{
-    Iov, MessageHead, RegisterRing, RingData, RingDataEntry, SendAddr, UnregisterRing, get_iov,
-    get_message_head, get_register_ring, get_ring_data, get_ring_data_entry, get_send_addr,
-    get_unregister_ring,
+    Iov, RegisterRing, RingData, RingDataEntry, SendAddr, UnregisterRing, get_iov,
+    get_register_ring, get_ring_data, get_ring_data_entry, get_send_addr, get_unregister_ring,
 };
 use argo_base::{NoMemory, PageList};
 use argo_model::Answer;
@@ -70,22 +69,6 @@ pub(crate) fn ring_data_entry(bytes: &[u8]) -> RingDataEntry
     ensures { result ≡ ring_data_entry_of bytes.now }
 {
     get_ring_data_entry(&array(bytes))
-}
-
-/// The header of a message.
-pub(crate) fn message_head(bytes: &[u8]) -> MessageHead
-    requires { length bytes.now ≡ 16 }
-    ensures { result ≡ message_head_of bytes.now }
-{
-    get_message_head(&array(bytes))
-}
-
-/// The field of 4 bytes at an offset.
-pub(crate) fn read_u32(bytes: &[u8], off: usize) -> u32
-    requires { off + 4 ≤ length bytes.now }
-    ensures { result ≡ u32_at bytes.now off }
-{
-    u32::from_le_bytes([bytes[off], bytes[off + 1], bytes[off + 2], bytes[off + 3]])
 }
 
 /// The field of 8 bytes at an offset.

@@ -1,10 +1,10 @@
 //! The progress of one section of a script: the next action of its current line, and what follows its outcome.
 //!
 //! The layer above uses one contract: `Vcpu::next` and `Vcpu::feed` are the line's program, action by action, and `Vcpu::step` is one
-//! step of the run over any access that tells its state. It stands on argo_base, argo_abi and argo_model.
+//! step of the run over any access that tells its state. It stands on argo_base, argo_abi, argo_model, iov_plan and
+//! guest_lib.
 #![tactic(auto)]
 
-mod blank;
 mod call;
 mod copies;
 mod cursor;
@@ -18,7 +18,7 @@ mod ranges;
 mod reader;
 mod reading;
 mod reads;
-mod recv;
+mod receiving;
 mod register;
 mod send;
 mod short;

@@ -4,25 +4,26 @@ ghost use Rattle.std.specs.Prelude.{◌≡◌, ◌<◌, ◌≤◌, List, [], ◌
 ghost use Rattle.argo_model.specs.Rules.Fit.{is_fit};
 ghost use Rattle.argo_model.specs.Programs.Program.{Do};
 
-use crate::blank::Blank;
 use crate::call::{Call, caller_of};
 use crate::cursor::Cursor;
 use crate::fetch::{fetch_first, fetched};
 use crate::phase::{Followed, Phase, Question, Reader, Text};
 use crate::reading::reading;
-use crate::recv;
+use crate::receiving::received;
 use argo_base::NoMemory;
 use argo_model::{Action, Actor, Line, Outcome, Reply};
+use guest_lib::Recv;
 use std::alloc::Global;
 use std::mem;
 
 impl Phase {
     ghost use Rattle.vcpu_machine.specs.Steps.{most_steps};
-    ghost use Rattle.vcpu_machine.specs.Phase.{rest_of, takes_none, IsAtPhase, HasRoom, CanFollow, GoesOnAlike, phase_left, Feeds, StandsForAll, is_line_for};
+    ghost use Rattle.argo_model.specs.Programs.Asks.{CanFollow};
+    ghost use Rattle.vcpu_machine.specs.Phase.{rest_of, takes_none, IsAtPhase, HasRoom, GoesOnAlike, phase_left, Feeds, StandsForAll, is_line_for};
     ghost use Rattle.vcpu_machine.specs.Followed.{Follows};
 
     /// The phase at which a line of an actor begins.
-    pub(crate) fn start(blank: Blank, actor: Actor, line: &Line) -> Phase
+    pub(crate) fn start(alloc: Global, actor: Actor, line: &Line) -> Phase
         requires { IsTrue (is_line_for actor line.now) }
         ensures at_phase { IsAtPhase line.now result }
         ensures starts { StandsForAll actor line.now result }
@@ -33,7 +34,7 @@ impl Phase {
                 rest: Cursor::over(*at, bytes.len() as u32),
                 text: Text::Stored,
             },
-            Line::Load { at, n } => reading(blank, Cursor::over(*at, *n), Reader::Show),
+            Line::Load { at, n } => reading(alloc, Cursor::over(*at, *n), Reader::Show),
             Line::Op { c, a1, a2, a3, a4 } => {
                 let call = Call {
                     caller: caller_of(actor),
@@ -42,10 +43,10 @@ impl Phase {
                     a3: *a3,
                     a4: *a4,
                 };
-                call.start(blank, *c)
+                call.start(alloc, *c)
             }
             Line::Await { turns } => Phase::Asking(Question::Look { later: *turns - 1 }),
-            Line::Recv { page, len } => recv::start(blank, *page, *len),
+            Line::Recv { page, len } => Phase::Receiving(Recv::start(alloc, *page, *len)),
             Line::Destroy { dom } => Phase::Asking(Question::Destroy(*dom)),
             Line::Reset { dom } => Phase::Asking(Question::Reset(*dom)),
             Line::Create { dom } => Phase::Asking(Question::Create(*dom)),
@@ -69,12 +70,13 @@ impl Phase {
             }
             Phase::Writing { rest, text } => text.put_first(alloc, line, *rest),
             Phase::Asking(question) => question.action(alloc),
+            Phase::Receiving(recv) => recv.next(),
             Phase::Ended => unreachable!(),
         }
     }
 
     /// Takes the outcome of the next action, and answers the reply where the line then has it.
-    pub(crate) fn feed(&mut self, blank: Blank, line: &Line, outcome: &Outcome) -> Option<Reply>
+    pub(crate) fn feed(&mut self, alloc: Global, line: &Line, outcome: &Outcome) -> Option<Reply>
         requires at_phase { IsAtPhase line.now self.old }
         requires room { HasRoom self.old }
         requires can { CanFollow (rest_of line.now self.old []) outcome.now }
@@ -83,7 +85,7 @@ impl Phase {
         ensures nearer { IfNone result (phase_left self.new < phase_left self.old) }
     {
         let phase = mem::replace(self, Phase::Ended);
-        match phase.fed(blank, line, outcome) {
+        match phase.fed(alloc, line, outcome) {
             Followed::To(phase) => {
                 *self = phase;
                 None
@@ -93,16 +95,17 @@ impl Phase {
     }
 
     // Where the line goes with an outcome.
-    fn fed(self, blank: Blank, line: &Line, outcome: &Outcome) -> Followed
+    fn fed(self, alloc: Global, line: &Line, outcome: &Outcome) -> Followed
         requires at_phase { IsAtPhase line.now self }
         requires room { HasRoom self }
         requires can { CanFollow (rest_of line.now self []) outcome.now }
         ensures { Follows line.now self outcome.now result }
     {
         match self {
-            Phase::Reading { rest, got, reader } => fetched(blank, rest, got, reader, outcome),
-            Phase::Writing { rest, text } => text.moved(blank, line, rest, outcome),
-            Phase::Asking(question) => question.asked(blank, outcome),
+            Phase::Reading { rest, got, reader } => fetched(alloc, rest, got, reader, outcome),
+            Phase::Writing { rest, text } => text.moved(alloc, line, rest, outcome),
+            Phase::Asking(question) => question.asked(alloc, outcome),
+            Phase::Receiving(recv) => received(recv, outcome),
             Phase::Ended => unreachable!(),
         }
     }

@@ -6,7 +6,6 @@ ghost use Rattle.vcpu_machine.specs.Followed.{Leads};
 ghost use Rattle.vcpu_machine.specs.Notifying.{ask_entry, entry_answered, sweeps};
 ghost use Rattle.argo_model.specs.Programs.Notify.{notify_head, notify_entries, answer_entries};
 
-use crate::blank::Blank;
 use crate::cursor::Cursor;
 use crate::layout::{ring_data, ring_data_entry};
 use crate::phase::{Followed, Phase, Question, Reader, Text};
@@ -14,6 +13,7 @@ use crate::reading::{reading, refusal};
 use crate::reads::{Entry, NotifyRead};
 use argo_base::{DomId, Errno};
 use argo_model::{Outcome, Reply};
+use std::alloc::Global;
 
 /// The entries that one notify answers at most.
 const MOST_ENTRIES: u32 = 256;
@@ -22,11 +22,11 @@ impl Entry {
     ghost use Rattle.vcpu_machine.specs.Entries.{places_after, IsEntry};
 
     /// Where the call goes after this entry.
-    pub(crate) fn next(self, blank: Blank) -> Followed
+    pub(crate) fn next(self, alloc: Global) -> Followed
         requires { IsEntry self }
         ensures { Leads (answer_entries (places_after self)) (5 * self.later) result }
     {
-        entries(blank, self.base, self.place + 1, self.later)
+        entries(alloc, self.base, self.place + 1, self.later)
     }
 
     // Asks for room as the entry says.
@@ -48,7 +48,7 @@ impl Entry {
     }
 
     /// Where the call goes when it was asked for room.
-    pub(crate) fn answered(self, blank: Blank, outcome: &Outcome) -> Followed
+    pub(crate) fn answered(self, alloc: Global, outcome: &Outcome) -> Followed
         requires { IsEntry self }
         ensures { Leads (entry_answered self outcome.now) (5 * self.later + 2) result }
     {
@@ -61,7 +61,7 @@ impl Entry {
                 },
             }),
             Outcome::Refused(e) => Followed::Over(refusal(*e)),
-            _ => self.next(blank),
+            _ => self.next(alloc),
         }
     }
 }
@@ -70,24 +70,24 @@ impl NotifyRead {
     ghost use Rattle.vcpu_machine.specs.Notifying.{after_notify_read, notify_size, IsNotifyRead, most_after_notify};
 
     /// Where the call goes with the bytes.
-    pub(crate) fn used(self, blank: Blank, got: &[u8]) -> Followed
+    pub(crate) fn used(self, alloc: Global, got: &[u8]) -> Followed
         requires ready { IsNotifyRead self }
         requires size { length got.now ≡ notify_size self }
         ensures { Leads (after_notify_read self got.now) (most_after_notify self) result }
     {
         match self {
-            NotifyRead::Head { base } => head(blank, base, got),
+            NotifyRead::Head { base } => head(alloc, base, got),
             NotifyRead::Entry(entry) => entry.ask(got),
         }
     }
 }
 
 /// Where a notify goes that has so many sweeps to come, of the rings after a serial.
-pub(crate) fn sweep(blank: Blank, base: u64, after: u64, count: u32) -> Followed
+pub(crate) fn sweep(alloc: Global, base: u64, after: u64, count: u32) -> Followed
     ensures { Leads (sweeps base count after) (count + most_of_notify) result }
 {
     if count == 0 {
-        return begin(blank, base);
+        return begin(alloc, base);
     }
     Followed::To(Phase::Asking(Question::Sweep {
         base,
@@ -97,18 +97,18 @@ pub(crate) fn sweep(blank: Blank, base: u64, after: u64, count: u32) -> Followed
 }
 
 /// Where a notify goes when no ring is left to be swept.
-pub(crate) fn begin(blank: Blank, base: u64) -> Followed
+pub(crate) fn begin(alloc: Global, base: u64) -> Followed
     ensures { Leads (notify_entries base) most_of_notify result }
 {
     if base == 0 {
         return Followed::Over(Reply::Number(0));
     }
     let rest = Cursor::over(base, 8);
-    Followed::To(reading(blank, rest, Reader::Notify(NotifyRead::Head { base })))
+    Followed::To(reading(alloc, rest, Reader::Notify(NotifyRead::Head { base })))
 }
 
 // After the 8 bytes that count the entries.
-fn head(blank: Blank, base: u64, bytes: &[u8]) -> Followed
+fn head(alloc: Global, base: u64, bytes: &[u8]) -> Followed
     requires { length bytes.now ≡ 8 }
     ensures { Leads (notify_head base bytes.now) 1280 result }
 {
@@ -119,11 +119,11 @@ fn head(blank: Blank, base: u64, bytes: &[u8]) -> Followed
     if MOST_ENTRIES < head.nent {
         return Followed::Over(refusal(Errno::Acces));
     }
-    entries(blank, base, 0, head.nent)
+    entries(alloc, base, 0, head.nent)
 }
 
 // So many entries from a place on.
-fn entries(blank: Blank, base: u64, place: u32, count: u32) -> Followed
+fn entries(alloc: Global, base: u64, place: u32, count: u32) -> Followed
     requires { place + count < 257 }
     ensures { Leads (answer_entries (places_from base place count)) (5 * count) result }
 {
@@ -136,5 +136,5 @@ fn entries(blank: Blank, base: u64, place: u32, count: u32) -> Followed
         later: count - 1,
     };
     let rest = Cursor::beyond(base, 8 + 20 * place, 20);
-    Followed::To(reading(blank, rest, Reader::Notify(NotifyRead::Entry(entry))))
+    Followed::To(reading(alloc, rest, Reader::Notify(NotifyRead::Entry(entry))))
 }

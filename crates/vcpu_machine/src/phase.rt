@@ -1,9 +1,10 @@
 //! How far a line is, in place of all the outcomes that it has had.
 
 use crate::cursor::Cursor;
-use crate::reads::{Address, Entry, NewRing, NotifyRead, RecvRead, RegisterRead, SendRead};
+use crate::reads::{Address, Entry, NewRing, NotifyRead, RegisterRead, SendRead};
 use argo_base::{DomId, Errno};
 use argo_model::{Answer, Load, Reply};
+use guest_lib::Recv;
 
 /// What a range of guest memory is fetched for.
 #[derive(Drop)]
@@ -13,7 +14,6 @@ pub(crate) enum Reader {
     Register(RegisterRead),
     Send(SendRead),
     Notify(NotifyRead),
-    Recv(RecvRead),
 }
 
 /// What is put into a range of guest memory.
@@ -23,8 +23,6 @@ pub(crate) enum Text {
     Stored,
     /// What notify answers in an entry.
     Answer { answer: Answer, entry: Entry },
-    /// A ring's rx word, and the message that was taken.
-    Taken { rx: u32, reply: Reply },
 }
 
 /// A single action of a line, and what it is for.
@@ -82,6 +80,8 @@ pub(crate) enum Phase {
     },
     /// A single action is to come.
     Asking(Question),
+    /// The guest's library takes a message.
+    Receiving(Recv),
     /// No line is left.
     Ended,
 }

@@ -9,7 +9,6 @@ ghost use Rattle.vcpu_machine.specs.Notifying.{swept_on};
 ghost use Rattle.vcpu_machine.specs.Entries.{most_of_notify};
 ghost use Rattle.vcpu_machine.specs.Followed.{Leads};
 
-use crate::blank::Blank;
 use crate::layout::read_numbers;
 use crate::notify;
 use crate::phase::{Followed, Phase, Question};
@@ -64,18 +63,18 @@ impl Question {
     }
 
     /// Where a line goes that asks, with an outcome.
-    pub(crate) fn asked(self, blank: Blank, outcome: &Outcome) -> Followed
+    pub(crate) fn asked(self, alloc: Global, outcome: &Outcome) -> Followed
         requires { IsQuestion self }
         ensures { (line : AnyLine) → Follows line (Phase.Asking self) outcome.now result }
     {
         match outcome {
             Outcome::Gone => Followed::Over(Reply::Gone),
-            _ => self.answered(blank, outcome),
+            _ => self.answered(alloc, outcome),
         }
     }
 
     // Where the line goes with an outcome other than `Gone`.
-    fn answered(self, blank: Blank, outcome: &Outcome) -> Followed
+    fn answered(self, alloc: Global, outcome: &Outcome) -> Followed
         requires { IsQuestion self }
         ensures { Leads (answered_by self outcome.now) (most_after_answer self) result }
     {
@@ -83,8 +82,8 @@ impl Question {
             Question::Refuse(e) => Followed::Over(refusal(e)),
             Question::Look { later } => looked(outcome, later),
             Question::Deliver { .. } => delivered(outcome),
-            Question::Sweep { base, later, .. } => swept(blank, outcome, base, later),
-            Question::Query { entry, .. } => entry.answered(blank, outcome),
+            Question::Sweep { base, later, .. } => swept(alloc, outcome, base, later),
+            Question::Query { entry, .. } => entry.answered(alloc, outcome),
             _ => done(outcome),
         }
     }
@@ -147,12 +146,12 @@ fn delivered(outcome: &Outcome) -> Followed
 }
 
 // After a sweep, with so many to come.
-fn swept(blank: Blank, outcome: &Outcome, base: u64, later: u32) -> Followed
+fn swept(alloc: Global, outcome: &Outcome, base: u64, later: u32) -> Followed
     ensures { Leads (swept_on base later outcome.now) (later + most_of_notify) result }
 {
     match outcome {
-        Outcome::Swept(serial) => notify::sweep(blank, base, *serial, later),
+        Outcome::Swept(serial) => notify::sweep(alloc, base, *serial, later),
         Outcome::Refused(e) => Followed::Over(refusal(*e)),
-        _ => notify::begin(blank, base),
+        _ => notify::begin(alloc, base),
     }
 }

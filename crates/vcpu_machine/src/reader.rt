@@ -2,14 +2,14 @@
 
 ghost use Rattle.std.specs.Prelude.{ℕ, ◌+◌, ◌≤◌, min, length};
 
-use crate::blank::Blank;
 use crate::phase::{Followed, Reader};
 use crate::reading::refusal;
 use argo_base::{Bytes, Errno};
 use argo_model::Reply;
+use std::alloc::Global;
 
 impl Reader {
-    ghost use Rattle.vcpu_machine.specs.Reader.{after_read, after_fault, HasSize, KeepsUse, KeepsSize, IsReader, most_after};
+    ghost use Rattle.vcpu_machine.specs.Reader.{after_read, after_fault, HasSize, IsReader, most_after};
     ghost use Rattle.vcpu_machine.specs.Followed.{Leads};
 
     /// The room that a range takes of which so many bytes are left, with the ranges that follow it.
@@ -18,33 +18,21 @@ impl Reader {
     {
         match self {
             Reader::Send(read) => left as usize + read.later() as usize,
-            Reader::Recv(read) => read.room(left),
             _ => left as usize,
         }
     }
 
-    /// Drops bytes that the line has no use for.
-    pub(crate) fn trim(&self, got: &mut Vec<u8>)
-        ensures same { KeepsUse self.now got.old.items got.new.items }
-        ensures size { KeepsSize self.now got.old.items got.new.items }
-    {
-        if let Reader::Recv(read) = self {
-            read.trim(got);
-        }
-    }
-
     /// Where the line goes with all the bytes of the range, and those that were fetched before.
-    pub(crate) fn used(self, blank: Blank, got: Vec<u8>) -> Followed
+    pub(crate) fn used(self, alloc: Global, got: Vec<u8>) -> Followed
         requires ready { IsReader self }
         requires size { HasSize (length got.items) self }
         ensures { Leads (after_read self got.items) (most_after self) result }
     {
         match self {
             Reader::Show => Followed::Over(Reply::Hex(Bytes::from_vec(got))),
-            Reader::Register(read) => read.used(blank, got),
-            Reader::Send(read) => read.used(blank, got),
-            Reader::Notify(read) => read.used(blank, got.as_slice()),
-            Reader::Recv(read) => read.used(blank, got),
+            Reader::Register(read) => read.used(alloc, got),
+            Reader::Send(read) => read.used(alloc, got),
+            Reader::Notify(read) => read.used(alloc, got.as_slice()),
         }
     }
 
@@ -54,7 +42,7 @@ impl Reader {
         ensures { Leads (after_fault self) (most_after self) result }
     {
         match self {
-            Reader::Show | Reader::Recv(_) => Followed::Over(Reply::Fault),
+            Reader::Show => Followed::Over(Reply::Fault),
             Reader::Register(_) | Reader::Notify(_) => Followed::Over(refusal(Errno::Fault)),
             Reader::Send(read) => read.failed(),
         }

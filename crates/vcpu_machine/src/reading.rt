@@ -6,14 +6,14 @@ ghost use Rattle.vcpu_machine.specs.Cursor.{pieces_left, IsSound};
 ghost use Rattle.vcpu_machine.specs.Followed.{Reads};
 ghost use Rattle.vcpu_machine.specs.Reader.{HasSize, IsReader};
 
-use crate::blank::Blank;
 use crate::cursor::Cursor;
 use crate::phase::{Phase, Reader};
 use argo_base::Errno;
 use argo_model::Reply;
+use std::alloc::Global;
 
 /// The phase at which a range is to be fetched.
-pub(crate) fn reading(blank: Blank, rest: Cursor, reader: Reader) -> Phase
+pub(crate) fn reading(alloc: Global, rest: Cursor, reader: Reader) -> Phase
     requires some { 0 < rest.left }
     requires sound { IsSound rest }
     requires size { HasSize rest.left reader }
@@ -22,7 +22,7 @@ pub(crate) fn reading(blank: Blank, rest: Cursor, reader: Reader) -> Phase
 {
     Phase::Reading {
         rest,
-        got: blank.into_vec(),
+        got: Vec::new(alloc),
         reader,
     }
 }

@@ -1,6 +1,5 @@
-//! What the fetches of hypercalls and of recv are for.
+//! What the fetches of hypercalls are for.
 
-use crate::cursor::Cursor;
 use argo_abi::Iov;
 use argo_base::DomId;
 
@@ -81,48 +80,4 @@ pub(crate) enum NotifyRead {
     /// The 8 bytes at `base`.
     Head { base: u64 },
     Entry(Entry),
-}
-
-/// The ring of a recv: its first page, and its slot bytes.
-#[derive(Clone, Copy)]
-pub(crate) struct OwnRing {
-    pub(crate) page: u32,
-    pub(crate) len: u32,
-}
-
-/// What the header of a message says, with the size of the body alone.
-#[derive(Clone, Copy)]
-pub(crate) struct Header {
-    pub(crate) src: DomId,
-    pub(crate) port: u32,
-    pub(crate) kind: u32,
-    pub(crate) size: u32,
-}
-
-/// What slot bytes are fetched for.
-#[derive(Clone, Copy)]
-pub(crate) enum Taking {
-    /// The header of the message at rx.
-    Head {
-        ring: OwnRing,
-        rx: u32,
-        tx: u32,
-    },
-    /// The body. The rx word that is put after it is `word`.
-    Body {
-        ring: OwnRing,
-        word: u32,
-        header: Header,
-    },
-}
-
-/// What a recv reads.
-#[derive(Clone, Copy)]
-pub(crate) enum RecvRead {
-    /// The rx word.
-    Rx(OwnRing),
-    /// The tx word, after the rx word.
-    Tx(OwnRing, u32),
-    /// Slot bytes, with those that follow behind the ring's end.
-    Slots { later: Cursor, taking: Taking },
 }

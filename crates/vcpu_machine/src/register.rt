@@ -5,7 +5,6 @@ ghost use Rattle.vcpu_machine.specs.Followed.{Leads};
 ghost use Rattle.vcpu_machine.specs.Registering.{is_lawful_head};
 ghost use Rattle.argo_model.specs.Programs.Register.{register_head, unregister_head};
 
-use crate::blank::Blank;
 use crate::cursor::Cursor;
 use crate::layout::{register_ring, unregister_ring};
 use crate::phase::{Followed, Phase, Question, Reader};
@@ -14,6 +13,7 @@ use crate::reads::{NewRing, RegisterRead};
 use argo_abi::RegisterRing;
 use argo_base::{DomId, Errno, PageList, slots};
 use argo_model::Action;
+use std::alloc::Global;
 
 impl NewRing {
     ghost use Rattle.vcpu_machine.specs.Registering.{register_on};
@@ -37,7 +37,7 @@ impl RegisterRead {
     ghost use Rattle.vcpu_machine.specs.Followed.{Leads};
 
     /// Where the call goes with the bytes.
-    pub(crate) fn used(self, blank: Blank, got: Vec<u8>) -> Followed
+    pub(crate) fn used(self, alloc: Global, got: Vec<u8>) -> Followed
         requires ready { IsRegisterRead self }
         requires size { length got.items ≡ register_size self }
         ensures { Leads (after_register_read self got.items) (most_after_register self) result }
@@ -45,7 +45,7 @@ impl RegisterRead {
         match self {
             RegisterRead::Old => unregister(got.as_slice()),
             RegisterRead::Head { list, count, flags } => {
-                register(blank, list, count, flags, got.as_slice())
+                register(alloc, list, count, flags, got.as_slice())
             }
             RegisterRead::Pages(ring) => {
                 Followed::To(Phase::Asking(Question::Register { ring, list: got }))
@@ -70,7 +70,7 @@ fn unregister(bytes: &[u8]) -> Followed
 }
 
 // After the structure of register_ring.
-fn register(blank: Blank, list: u64, count: u64, flags: u64, bytes: &[u8]) -> Followed
+fn register(alloc: Global, list: u64, count: u64, flags: u64, bytes: &[u8]) -> Followed
     requires { length bytes.now ≡ 12 }
     ensures { Leads (register_head list count flags bytes.now) 11 result }
 {
@@ -86,7 +86,7 @@ fn register(blank: Blank, list: u64, count: u64, flags: u64, bytes: &[u8]) -> Fo
     };
     let rest = Cursor::over(list, 8 * count as u32);
     let reader = Reader::Register(RegisterRead::Pages(ring));
-    Followed::To(reading(blank, rest, reader))
+    Followed::To(reading(alloc, rest, reader))
 }
 
 // Whether the structure is a lawful one, and this the count of its pages.

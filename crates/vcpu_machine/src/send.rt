@@ -7,7 +7,6 @@ ghost use Rattle.argo_model.specs.Programs.Send.{send_head};
 ghost use Rattle.vcpu_machine.specs.Sending.{clear_pads, own_source, deliver_to, judge_iovs, IsNextBuffer};
 ghost use Rattle.vcpu_machine.specs.Followed.{Leads};
 
-use crate::blank::Blank;
 use crate::cursor::Cursor;
 use crate::layout::{iov, send_addr};
 use crate::phase::{Followed, Phase, Question, Reader};
@@ -16,6 +15,7 @@ use crate::reads::{Address, Gather, MOST_IOVS, SendRead};
 use argo_abi::{Iov, SendAddr};
 use argo_base::{Bytes, DomId, Errno};
 use argo_model::{Action, Load};
+use std::alloc::Global;
 
 impl Address {
     ghost use Rattle.vcpu_machine.specs.Sending.{delivered_to};
@@ -46,7 +46,7 @@ impl SendRead {
     }
 
     /// Where the call goes with the bytes.
-    pub(crate) fn used(self, blank: Blank, got: Vec<u8>) -> Followed
+    pub(crate) fn used(self, alloc: Global, got: Vec<u8>) -> Followed
         requires ready { IsSendRead self }
         requires size { length got.items ≡ send_size self }
         ensures { Leads (after_send_read self got.items) (most_after_send self) result }
@@ -57,8 +57,8 @@ impl SendRead {
                 iovs,
                 count,
                 kind,
-            } => head(blank, got, caller, iovs, count, kind),
-            SendRead::Iovs { count, address } => judged(blank, got, count, address),
+            } => head(alloc, got, caller, iovs, count, kind),
+            SendRead::Iovs { count, address } => judged(alloc, got, count, address),
             SendRead::Body(gather) => gather.go_on(got),
         }
     }
@@ -121,7 +121,7 @@ fn deliver(address: Address, load: Load) -> Followed
 }
 
 // After the addresses.
-fn head(blank: Blank, got: Vec<u8>, caller: DomId, iovs: u64, count: u32, kind: u32) -> Followed
+fn head(alloc: Global, got: Vec<u8>, caller: DomId, iovs: u64, count: u32, kind: u32) -> Followed
     requires size { length got.items ≡ 16 }
     requires few { count ≤ 8 }
     ensures { Leads (send_head caller iovs count kind got.items) 4115 result }
@@ -142,11 +142,11 @@ fn head(blank: Blank, got: Vec<u8>, caller: DomId, iovs: u64, count: u32, kind: 
     if count == 0 {
         let mut none = got;
         none.clear();
-        return judged(blank, none, 0, address);
+        return judged(alloc, none, 0, address);
     }
     let rest = Cursor::over(iovs, 16 * count);
     let reader = Reader::Send(SendRead::Iovs { count, address });
-    Followed::To(reading(blank, rest, reader))
+    Followed::To(reading(alloc, rest, reader))
 }
 
 // Whether both pads are 0.
@@ -165,7 +165,7 @@ fn has_own_source(caller: DomId, addr: &SendAddr) -> bool
 }
 
 // After the buffers.
-fn judged(blank: Blank, list: Vec<u8>, count: u32, address: Address) -> Followed
+fn judged(alloc: Global, list: Vec<u8>, count: u32, address: Address) -> Followed
     requires size { length list.items ≡ 16 * count }
     requires few { count ≤ 8 }
     ensures { Leads (judge_iovs address (iovs_at list.items count)) 4112 result }
@@ -183,7 +183,7 @@ fn judged(blank: Blank, list: Vec<u8>, count: u32, address: Address) -> Followed
                 size,
                 address,
             };
-            gather.go_on(blank.into_vec())
+            gather.go_on(Vec::new(alloc))
         }
     }
 }

@@ -7,7 +7,6 @@ ghost use Rattle.argo_model.specs.Programs.Asks.{Say, Do, Next, Rests, put_all};
 ghost use Rattle.vcpu_machine.specs.Ranges.{PutsFirst};
 ghost use Rattle.vcpu_machine.specs.Text.{stored_by};
 
-use crate::blank::Blank;
 use crate::cursor::Cursor;
 use crate::layout::answer_text;
 use crate::phase::{Followed, Phase, Text};
@@ -39,14 +38,13 @@ impl Text {
                 let bytes = answer_text(alloc, *answer)?;
                 put_last(alloc, rest, bytes.as_slice())
             }
-            Text::Taken { rx, .. } => put_last(alloc, rest, &rx.to_le_bytes()),
         }
     }
 
     /// Where a line goes that puts, with an outcome of the first piece.
     pub(crate) fn moved(
         self,
-        blank: Blank,
+        alloc: Global,
         line: &Line,
         rest: Cursor,
         outcome: &Outcome,
@@ -57,21 +55,20 @@ impl Text {
         let mut rest = rest;
         match put_moved(&mut rest, outcome) {
             Moved::More => Followed::To(Phase::Writing { rest, text: self }),
-            Moved::Whole => self.put(blank),
+            Moved::Whole => self.put(alloc),
             Moved::Failed => Followed::Over(self.failed()),
             Moved::Ended => Followed::Over(Reply::Gone),
         }
     }
 
     // Where the line goes when all is put.
-    fn put(self, blank: Blank) -> Followed
+    fn put(self, alloc: Global) -> Followed
         requires { IsText self }
         ensures { Leads (after_put self) (most_after_put self) result }
     {
         match self {
             Text::Stored => Followed::Over(Reply::Stored),
-            Text::Answer { entry, .. } => entry.next(blank),
-            Text::Taken { reply, .. } => Followed::Over(reply),
+            Text::Answer { entry, .. } => entry.next(alloc),
         }
     }
 
@@ -81,7 +78,7 @@ impl Text {
     {
         match self {
             Text::Answer { .. } => refusal(Errno::Fault),
-            Text::Stored | Text::Taken { .. } => Reply::Fault,
+            Text::Stored => Reply::Fault,
         }
     }
 }

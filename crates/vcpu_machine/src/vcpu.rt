@@ -3,12 +3,11 @@
 ghost use Rattle.std.specs.Prelude.{◌≡◌, ◌<◌, ◌≤◌, ◌↔◌, ◌∷◌, [], Some, length, drop, sum_by, slice_get, true, IsTrue, IfOk, IsOk, OnOk, OnErr};
 ghost use Rattle.argo_model.specs.Rules.Access.{has_steps_left, counted_at};
 ghost use Rattle.argo_model.specs.Rules.Fit.{is_fit_for};
-ghost use Rattle.argo_model.specs.Programs.Program.{Do};
+ghost use Rattle.argo_model.specs.Programs.Asks.{Do, CanFollow};
 ghost use Rattle.argo_model.specs.Runs.Script.{turns_of};
-ghost use Rattle.vcpu_machine.specs.Phase.{CanFollow, takes_none};
+ghost use Rattle.vcpu_machine.specs.Phase.{takes_none};
 ghost use Rattle.vcpu_machine.specs.Vcpu.{ahead, left_of, Begins, Begun, GoesOn, Fed, TakesTurn, TakesStep, CountsIn};
 
-use crate::blank::Blank;
 use crate::copies::copy_of_part;
 use crate::phase::Phase;
 use crate::short::short_of;
@@ -45,7 +44,7 @@ impl Vcpu {
         ensures { IfOk result (λ v. Begun p.now v) }
     {
         let part = copy_of_part(alloc, p)?;
-        let phase = phase_at(Blank::new(alloc), &part, 0);
+        let phase = phase_at(alloc, &part, 0);
         Ok(Vcpu {
             alloc,
             part,
@@ -106,11 +105,11 @@ impl Vcpu {
         let part = &self.part;
         let line = part.lines.get(self.done as usize);
         self.ready = false;
-        let Some(reply) = self.phase.feed(Blank::new(self.alloc), line, o) else {
+        let Some(reply) = self.phase.feed(self.alloc, line, o) else {
             return None;
         };
         self.done += 1;
-        self.phase = phase_at(Blank::new(self.alloc), &self.part, self.done);
+        self.phase = phase_at(self.alloc, &self.part, self.done);
         Some(reply)
     }
 
@@ -172,12 +171,12 @@ fn is_past(part: &Part, done: u32) -> bool
 }
 
 // The phase at which a line of a section begins, or the end.
-fn phase_at(blank: Blank, part: &Part, done: u32) -> Phase
+fn phase_at(alloc: Global, part: &Part, done: u32) -> Phase
     ensures { Begins part.now.actor (drop done part.now.lines) result }
 {
     let place = done as usize;
     if place < part.lines.len() {
-        Phase::start(blank, part.actor, part.lines.get(place))
+        Phase::start(alloc, part.actor, part.lines.get(place))
     } else {
         Phase::Ended
     }

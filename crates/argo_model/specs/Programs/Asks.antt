@@ -1,5 +1,5 @@
 -- The words in which programs of actions are written: each reads the outcomes that it is about, and goes on with those left.
-use Rattle.std.specs.Prelude.{ℕ, Bool, true, false, List, [], ◌∷◌, ◌++◌, take, drop, pos, neg_ℤ}
+use Rattle.std.specs.Prelude.{ℕ, Bool, true, false, List, [], ◌∷◌, ◌++◌, take, drop, pos, neg_ℤ, IsTrue}
 use Rattle.argo_base.specs.declared.errno.Errno.{Errno}
 use Rattle.argo_base.specs.declared.errno.Errno.TheVariants.{Fault as efault}
 use Rattle.argo_base.specs.declared.piece.Piece.{Piece}
@@ -11,11 +11,17 @@ use Rattle.argo_model.specs.declared.action.Outcome.{Outcome}
 use Rattle.argo_model.specs.declared.action.Outcome.TheVariants.{Done, Bytes, Fault, Refused, Accepted, Swept, NoMore, Answer, Flag, Gone}
 use Rattle.argo_model.specs.declared.reply.Reply.{Reply}
 use Rattle.argo_model.specs.declared.reply.Reply.TheVariants.{Number, Gone as gone}
+use Rattle.argo_model.specs.Rules.Outcomes.{can_have}
 
 -- what comes next: an action, or the reply
 pub data Next : Type 0 where
   Do : (action : Action) → Next
   Say : (reply : Reply) → Next
+
+-- the outcome is one that the next action can have
+abbrev pub CanFollow : Next → Outcome → Type 0
+CanFollow (Do a) o = IsTrue (can_have a o)
+CanFollow (Say reply) o = ⊥
 
 -- the outcomes that are still to be looked at
 abbrev pub Rests : Type 0

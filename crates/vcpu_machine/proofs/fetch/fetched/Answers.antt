@@ -3,8 +3,8 @@ use Rattle.vcpu_machine.proofs.fetch.fetched.Goals as goal
 
 pub returns-in-More : goal.returns-in-More
 returns-in-More c = λ line.
-    fetch_more line c.args.rest c.fetch_moved.new.rest c.args.got c.fetch_moved.new.got.items c.trim.new.got c.args.reader c.args.outcome.now
-    c.requires.at_phase c.in-More.ensures.moves c.in-More.ensures.nearer c.in-More.ensures.counted c.trim.ensures.same c.trim.ensures.size
+    fetch_more line c.args.rest c.fetch_moved.new.rest c.args.got c.fetch_moved.new.got c.args.reader c.args.outcome.now
+    c.requires.at_phase c.in-More.ensures.moves c.in-More.ensures.nearer c.in-More.ensures.counted
 
 pub returns-in-Whole : goal.returns-in-Whole
 returns-in-Whole c = λ line.

@@ -13,8 +13,8 @@ pub deliver-requires : goal.deliver-requires
 deliver-requires c =
     refused_verdict (take c.args.count c.read_iovs-iovs.result) c.in-Err.e (c.in-Err.ensures.verdict ∙ ap verdict_of c.split_at.ensures.front)
 
-pub returns-in-Ok : goal.returns-in-Ok
-returns-in-Ok c =
+pub returns : goal.returns
+returns c =
     let list = c.args.list.items in
     let a = c.args.address in
     let count = c.args.count in
@@ -32,4 +32,4 @@ returns-in-Ok c =
     leads_within (send_judged_to a vs (verdict_of vs)) (length (gathered_pieces vs) + 1) 4112 c.go_on.result (omega (arith, few))
     (leads_by (send_judged_to a vs (verdict_of vs)) (gather (gathered_pieces vs) [] n (deliver_to a)) (length (gathered_pieces vs) + 1) c.go_on.result
     (λ os. ap (λ r. send_judged_to a vs r os) (sym said))
-    (subst Q is (subst P c.into_vec.ensures c.go_on.ensures)))
+    (subst Q is (subst P c.new.ensures.items c.go_on.ensures)))

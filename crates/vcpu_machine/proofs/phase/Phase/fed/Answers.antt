@@ -13,3 +13,6 @@ returns-in-Reading c = rw c.in-Reading.is (c.fetched.ensures c.args.line.now)
 
 pub returns-in-Asking : goal.returns-in-Asking
 returns-in-Asking c = rw c.in-Asking.is (c.asked.ensures c.args.line.now)
+
+pub returns-in-Receiving : goal.returns-in-Receiving
+returns-in-Receiving c = rw c.in-Receiving.is (c.received.ensures c.args.line.now)

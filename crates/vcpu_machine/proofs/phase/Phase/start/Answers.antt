@@ -2,6 +2,7 @@ use Rattle.std.proofs.Common.{length, [], sym, ap, ◌∙◌, arith}
 use Rattle.argo_model.specs.declared.line.Line.TheVariants.{Load}
 use Rattle.argo_model.specs.declared.reply.Reply.TheVariants.{Hex, Fault}
 use Rattle.argo_model.specs.Programs.Asks.{Say, fetch_all}
+use Rattle.argo_model.specs.Programs.Recv.{say_found}
 use Rattle.vcpu_machine.specs.Cursor.{pieces_left}
 use Rattle.vcpu_machine.proofs.LineLaws.{short_store, short_load}
 use Rattle.vcpu_machine.proofs.RangeLaws.{few_pieces, fetch_all-collects}
@@ -30,5 +31,5 @@ returns-in-Load-clause-starts c = λ os.
 pub returns-in-Op-clause-at_phase : goal.returns-in-Op-clause-at_phase
 returns-in-Op-clause-at_phase c = c.start.ensures.ready c.args.line.now
 
-pub returns-in-Recv-clause-at_phase : goal.returns-in-Recv-clause-at_phase
-returns-in-Recv-clause-at_phase c = c.start-in-Recv.ensures.ready c.args.line.now
+pub returns-in-Recv-clause-starts : goal.returns-in-Recv-clause-starts
+returns-in-Recv-clause-starts c = λ os. rw c.in-Recv.is (sym (c.start-in-Recv.ensures.starts say_found os))

@@ -1,7 +1,7 @@
 use Rattle.std.proofs.Common.{◌≡◌, ◌<◌, ◌+◌, [], drop, length, true, sym, subst, ap, refl, ◌∙◌}
 use Rattle.argo_model.specs.Programs.Program.{Next}
 use Rattle.argo_model.specs.Runs.Script.{Section}
-use Rattle.vcpu_machine.specs.Phase.{CanFollow}
+use Rattle.argo_model.specs.Programs.Asks.{CanFollow}
 use Rattle.vcpu_machine.specs.Vcpu.{VcpuAt, ahead}
 use Rattle.vcpu_machine.proofs.VcpuLaws.{line_here, phase_here, room_here, rest_here, has_room, ready_more, goes_on_is, goes_on_fed, over_is, over_fed}
 use Rattle.vcpu_machine.proofs.vcpu.Vcpu.feed_by.Goals as goal

@@ -1,0 +1,3 @@
+pub mod FetchLaws
+pub mod UnderWayLaws
+pub mod WordLaws

@@ -1,0 +1,83 @@
+//! The body of a message, fetched piece by piece.
+
+ghost use Rattle.std.specs.Prelude.{◌≡◌, ◌+◌, ◌<◌, ◌≤◌, ℕ, Bool, length, true, false, IsTrue, IfOk, OnOk};
+ghost use Rattle.guest_lib.specs.declared.own_ring.OwnRing.{OwnRing as AnyRing};
+ghost use Rattle.argo_model.specs.Rules.Fit.{is_fit};
+ghost use Rattle.guest_lib.specs.Receiving.{message_with, step_left};
+
+use crate::fetched::bytes_of;
+use crate::stage::{BodyRead, Onward, Stage};
+use argo_base::{Bytes, DomId, Message, NoMemory};
+use argo_model::{Action, Outcome};
+
+impl BodyRead {
+    ghost use Rattle.guest_lib.specs.Stage.{IsBody, HasBodySize, IsStage, Follows, GoAlike, IsAction, CanHearPiece, read_body, step_of};
+
+    /// The fetch of the next piece, with the memory for all of the body.
+    pub(crate) fn next(&mut self) -> Result<Action, NoMemory>
+        requires some { 0 < length self.old.slots }
+        requires size { HasBodySize self.old }
+        ensures does { IfOk result (λ a. (ring : AnyRing) → IsAction ring (read_body self.old) a) }
+        ensures fit { IfOk result (λ a. IsTrue (is_fit a)) }
+        ensures alike { read_body self.new ≡ read_body self.old }
+        ensures room { OnOk result (IsBody true self.new) }
+        ensures keeps { (ready : Bool) → IsBody ready self.old → IsBody ready self.new }
+    {
+        let size = self.head.len.saturating_sub(16) as usize;
+        self.got.reserve_exact(size - self.got.len())?;
+        let Some(piece) = self.slots.first() else {
+            unreachable!();
+        };
+        Ok(Action::Fetch {
+            page: piece.page,
+            off: piece.off,
+            n: piece.n,
+        })
+    }
+
+    /// Where the library goes with the outcome of that fetch.
+    pub(crate) fn fed(self, outcome: &Outcome) -> Onward
+        requires ready { IsBody true self }
+        requires can { CanHearPiece self outcome.now }
+        ensures { (ring : AnyRing) → Follows ring (read_body self) outcome.now result }
+    {
+        let bytes = match bytes_of(outcome) {
+            Ok(bytes) => bytes,
+            Err(received) => return Onward::Ended(received),
+        };
+        let mut body = self;
+        body.got.extend_from_slice(bytes).unwrap();
+        body.slots.drop_first();
+        Onward::To(body.stage())
+    }
+
+    /// The stage after the bytes so far: the next piece, or the put of the rx word.
+    pub(crate) fn stage(self) -> Stage
+        requires { HasBodySize self }
+        ensures alike { GoAlike (step_of result) (read_body self) }
+        ensures ready { (len : ℕ) → IsStage len false result }
+        ensures some { 0 < step_left (step_of result) }
+        ensures few { step_left (step_of result) ≤ length self.slots + 1 }
+    {
+        if self.slots.first().is_some() {
+            return Stage::Body(self);
+        }
+        let word = self.word;
+        Stage::Word {
+            word,
+            message: self.message(),
+        }
+    }
+
+    // The message, with the bytes so far.
+    fn message(self) -> Message
+        ensures { result ≡ message_with self.head self.got.items }
+    {
+        Message {
+            src: DomId(self.head.source.domain_id),
+            port: self.head.source.aport,
+            kind: self.head.message_type,
+            body: Bytes::from_vec(self.got),
+        }
+    }
+}

@@ -1,0 +1,21 @@
+//! What the outcome of a fetch comes to.
+
+ghost use Rattle.std.specs.Prelude.{◌≡◌, IfOk, IfErr};
+ghost use Rattle.guest_lib.specs.Ends.{EndsFetch};
+ghost use Rattle.guest_lib.specs.Receiving.{IsShort};
+
+use crate::received::Received;
+use argo_model::Outcome;
+
+/// The bytes of a fetch, or what the library then came to.
+pub(crate) fn bytes_of(outcome: &Outcome) -> Result<&[u8], Received>
+    ensures ok { IfOk result (λ bytes. outcome.now ≡ Outcome.Bytes bytes.now) }
+    ensures err { IfErr result (λ received. EndsFetch outcome.now received) }
+    ensures short { IfErr result IsShort }
+{
+    match outcome {
+        Outcome::Bytes(bytes) => Ok(bytes.as_slice()),
+        Outcome::Gone => Err(Received::Gone),
+        _ => Err(Received::Fault),
+    }
+}

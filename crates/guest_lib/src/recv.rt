@@ -1,0 +1,104 @@
+//! A recv, action by action.
+
+ghost use Rattle.std.specs.Prelude.{◌≡◌, ◌<◌, ◌↔◌, true, IsTrue, IsSome, IfOk, IfSome, IfNone, OnOk, OnErr};
+ghost use Rattle.argo_base.specs.Slots.{is_legal};
+ghost use Rattle.argo_model.specs.Rules.Fit.{is_fit};
+ghost use Rattle.guest_lib.specs.Receiving.{Starts, IsUnderWay, IsShort, IsNext, FeedsAll, CanFeed, GoesOn, left_of};
+
+use crate::own_ring::OwnRing;
+use crate::received::Received;
+use crate::stage::{Onward, Stage};
+use argo_base::NoMemory;
+use argo_model::{Action, Outcome};
+use std::alloc::Global;
+use std::marker::Model;
+use std::mem;
+
+/// A message that is being taken from a ring of the guest's own. Contracts see how far it is.
+#[derive(Drop)]
+pub struct Recv {
+    alloc: Global,
+    ring: OwnRing,
+    stage: Stage,
+    // The memory for the next outcome is there.
+    ready: bool,
+}
+
+impl Model for Recv {
+    ghost use Rattle.std.specs.Prelude.{IsTrue};
+    ghost use Rattle.argo_base.specs.Slots.{is_legal};
+    ghost use Rattle.guest_lib.specs.Receiving.{Receiving};
+    ghost use Rattle.guest_lib.specs.Stage.{step_of, IsStage};
+
+    ghost Value = { Receiving };
+
+    ghost view = { λ r. record { page = r.ring.page; len = r.ring.len; step = step_of r.stage; ready = r.ready } };
+
+    ghost invariant = { λ r. IsTrue (is_legal r.ring.len) × IsStage r.ring.len r.ready r.stage };
+}
+
+impl Recv {
+    /// A recv from the ring of `len` slot bytes that stands on a page of the guest and those that follow it.
+    pub fn start(alloc: Global, page: u32, len: u32) -> Recv
+        requires { IsTrue (is_legal len) }
+        ensures starts { Starts page len result }
+        ensures under_way { IsUnderWay result }
+        ensures left { left_of result ≡ 4104 }
+    {
+        Recv {
+            alloc,
+            ring: OwnRing { page, len },
+            stage: Stage::Rx,
+            ready: false,
+        }
+    }
+
+    /// The next action, with all the memory that its outcome will want. After want of memory the recv is as before.
+    pub fn next(&mut self) -> Result<Action, NoMemory>
+        requires { 0 < left_of self.old }
+        ensures does { IfOk result (λ a. IsNext self.old a) }
+        ensures fit { IfOk result (λ a. IsTrue (is_fit a)) }
+        ensures feeds { IfOk result (λ a. FeedsAll a self.new) }
+        ensures ok { OnOk result (self.new ≡ record self.old { ready = true }) }
+        ensures err { OnErr result (self.new ≡ self.old) }
+    {
+        let action = self.stage.next(self.alloc, self.ring)?;
+        self.ready = true;
+        Ok(action)
+    }
+
+    /// Takes the outcome of the action that `next` gave, and answers what the recv came to, where it has come to its end. It takes
+    /// no memory.
+    pub fn feed(&mut self, outcome: Outcome) -> Option<Received>
+        requires ready { IsTrue self.old.ready }
+        requires can { CanFeed self.old outcome }
+        ensures goes_on { GoesOn self.old outcome result self.new }
+        ensures under_way { IfNone result (IsUnderWay self.new) }
+        ensures short { IfSome result IsShort }
+        ensures nearer { left_of self.new < left_of self.old }
+        ensures over { IsSome result ↔ (left_of self.new ≡ 0) }
+    {
+        self.feed_by(&outcome)
+    }
+
+    /// As `feed`, of an outcome that the caller keeps.
+    pub fn feed_by(&mut self, outcome: &Outcome) -> Option<Received>
+        requires ready { IsTrue self.old.ready }
+        requires can { CanFeed self.old outcome.now }
+        ensures goes_on { GoesOn self.old outcome.now result self.new }
+        ensures under_way { IfNone result (IsUnderWay self.new) }
+        ensures short { IfSome result IsShort }
+        ensures nearer { left_of self.new < left_of self.old }
+        ensures over { IsSome result ↔ (left_of self.new ≡ 0) }
+    {
+        let stage = mem::replace(&mut self.stage, Stage::Done);
+        self.ready = false;
+        match stage.fed(self.alloc, self.ring, outcome) {
+            Onward::To(stage) => {
+                self.stage = stage;
+                None
+            }
+            Onward::Ended(received) => Some(received),
+        }
+    }
+}

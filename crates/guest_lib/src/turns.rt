@@ -1,0 +1,73 @@
+//! The action of each stage, and what follows its outcome.
+
+ghost use Rattle.std.specs.Prelude.{◌≡◌, ◌^◌, ◌<◌, length, true, false, IsTrue, IfOk, OnOk};
+ghost use Rattle.argo_base.specs.Slots.{is_legal};
+ghost use Rattle.argo_model.specs.Rules.Fit.{is_fit};
+ghost use Rattle.guest_lib.specs.Ends.{EndsPut};
+ghost use Rattle.guest_lib.specs.Receiving.{step_left, IsShort};
+
+use crate::own_ring::OwnRing;
+use crate::received::Received;
+use crate::stage::{Onward, Stage};
+use argo_base::{Bytes, Message, NoMemory};
+use argo_model::{Action, Outcome};
+use std::alloc::Global;
+
+impl Stage {
+    ghost use Rattle.guest_lib.specs.Stage.{IsStage, StaysReady, IsAction, CanHear, Follows, step_of};
+
+    /// The next action, with the memory that its outcome will want.
+    pub(crate) fn next(&mut self, alloc: Global, ring: OwnRing) -> Result<Action, NoMemory>
+        requires some { 0 < step_left (step_of self.old) }
+        requires ready { IsStage ring.len false self.old }
+        requires ring { IsTrue (is_legal ring.len) }
+        ensures does { IfOk result (λ a. IsAction ring (step_of self.old) a) }
+        ensures fit { IfOk result (λ a. IsTrue (is_fit a)) }
+        ensures alike { step_of self.new ≡ step_of self.old }
+        ensures room { OnOk result (IsStage ring.len true self.new) }
+        ensures keeps { StaysReady ring.len self.old self.new }
+    {
+        match self {
+            Stage::Rx => Ok(ring.fetch(0, 4)),
+            Stage::Tx { .. } => Ok(ring.fetch(4, 4)),
+            Stage::Head { rx, .. } => Ok(ring.fetch(64 + *rx, 16)),
+            Stage::Body(body) => body.next(),
+            Stage::Word { word, .. } => Ok(Action::Put {
+                page: u64::from(ring.page),
+                off: 0,
+                bytes: Bytes::copy_of(alloc, &word.to_le_bytes())?,
+            }),
+            Stage::Done => unreachable!(),
+        }
+    }
+
+    /// Where the recv goes with the outcome of that action.
+    pub(crate) fn fed(self, alloc: Global, ring: OwnRing, outcome: &Outcome) -> Onward
+        requires ready { IsStage ring.len true self }
+        requires ring { IsTrue (is_legal ring.len) }
+        requires can { CanHear ring (step_of self) outcome.now }
+        ensures { Follows ring (step_of self) outcome.now result }
+    {
+        match self {
+            Stage::Rx => ring.rx_fed(outcome),
+            Stage::Tx { rx } => ring.tx_fed(rx, outcome),
+            Stage::Head { rx, tx } => ring.head_fed(alloc, rx, tx, outcome),
+            Stage::Body(body) => body.fed(outcome),
+            Stage::Word { message, .. } => Onward::Ended(taken(message, outcome)),
+            Stage::Done => unreachable!(),
+        }
+    }
+}
+
+// What the library comes to with the outcome of the put of the rx word.
+fn taken(message: Message, outcome: &Outcome) -> Received
+    requires { length message.body < 2 ^ 32 }
+    ensures ends { EndsPut message outcome.now result }
+    ensures short { IsShort result }
+{
+    match outcome {
+        Outcome::Done => Received::Msg(message),
+        Outcome::Gone => Received::Gone,
+        _ => Received::Fault,
+    }
+}

@@ -1,0 +1,60 @@
+//! A line that the guest's library works through.
+
+ghost use Rattle.std.specs.Prelude.{◌≡◌, ◌^◌, ◌<◌, length, take, IsTrue};
+ghost use Rattle.argo_model.specs.Programs.Asks.{Say};
+ghost use Rattle.argo_model.specs.Programs.Recv.{say_found};
+ghost use Rattle.argo_model.specs.declared.line.Line.{Line as AnyLine};
+ghost use Rattle.guest_lib.specs.Receiving.{IsUnderWay, CanFeed, IsShort, ended};
+ghost use Rattle.vcpu_machine.specs.Followed.{Follows};
+
+use crate::phase::{Followed, Phase};
+use argo_base::Bytes;
+use argo_model::{Outcome, Reply};
+use guest_lib::{Received, Recv};
+
+/// The first bytes of a body, which a reply shows.
+const SHOWN_BYTES: usize = 64;
+
+/// Where the line goes with an outcome of the library's next action.
+pub(crate) fn received(recv: Recv, outcome: &Outcome) -> Followed
+    requires under_way { IsUnderWay recv }
+    requires ready { IsTrue recv.ready }
+    requires can { CanFeed recv outcome.now }
+    ensures { (line : AnyLine) → Follows line (Phase.Receiving recv) outcome.now result }
+{
+    let mut recv = recv;
+    match recv.feed_by(outcome) {
+        None => Followed::To(Phase::Receiving(recv)),
+        Some(found) => Followed::Over(reply_of(found)),
+    }
+}
+
+// The reply that shows what the library came to: of a body its size and its first bytes.
+fn reply_of(found: Received) -> Reply
+    requires { IsShort found }
+    ensures { Say result ≡ ended say_found found }
+{
+    match found {
+        Received::Msg(message) => Reply::Msg {
+            src: message.src,
+            port: message.port,
+            kind: message.kind,
+            size: message.body.len() as u32,
+            head: head_of(message.body),
+        },
+        Received::Empty => Reply::Empty,
+        Received::Bad => Reply::Bad,
+        Received::Fault => Reply::Fault,
+        Received::Gone => Reply::Gone,
+    }
+}
+
+// The first bytes of a body, whose other memory is given back.
+fn head_of(body: Bytes) -> Bytes
+    ensures { result ≡ take 64 body }
+{
+    let mut bytes = body.into_vec();
+    bytes.truncate(SHOWN_BYTES);
+    bytes.shrink_to_fit();
+    Bytes::from_vec(bytes)
+}
