@@ -1,6 +1,7 @@
 pub mod DeliverLaws
 pub mod FetchLaws
 pub mod MetLaws
+pub mod RunLaws
 pub mod SendLaws
 pub mod SendReadLaws
 pub mod SizeLaws
