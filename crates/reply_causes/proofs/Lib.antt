@@ -6,4 +6,5 @@ pub mod SendLaws
 pub mod SendReadLaws
 pub mod SizeLaws
 pub mod StepLaws
+pub mod TableLaws
 pub mod TestLaws

@@ -1,2 +1,8 @@
+pub mod Causes
+pub mod ControlCauses
+pub mod MemoryCauses
 pub mod Plays
+pub mod RecvCauses
+pub mod RegisterCauses
 pub mod Sends
+pub mod Tables
