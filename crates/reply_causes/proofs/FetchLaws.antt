@@ -58,7 +58,7 @@ pub found_more : (d : ℕ) (p : Piece) (ps : List Piece) (s : State) (states : L
     → found d (p ∷ ps) (s ∷ states) ≡ option_map (λ more. bs ++ more) (found d ps states)
 found_more d p ps s states bs here = ap (λ o. option_and_then (λ b. option_map (λ more. b ++ more) (found d ps states)) o) here
 
-found_none : (d : ℕ) (p : Piece) (ps : List Piece) (s : State) (states : List State) → piece_in s d p ≡ None → found d (p ∷ ps) (s ∷ states) ≡ None
+pub found_none : (d : ℕ) (p : Piece) (ps : List Piece) (s : State) (states : List State) → piece_in s d p ≡ None → found d (p ∷ ps) (s ∷ states) ≡ None
 found_none d p ps s states here = ap (λ o. option_and_then (λ b. option_map (λ more. b ++ more) (found d ps states)) o) here
 
 pub fetch_all-ends : (d generation : ℕ) (ps : List Piece) (got : List ℕ) (failed : Reply) (k : List ℕ → Rests) (ts : List Transition) (r : Reply)

@@ -1,6 +1,9 @@
+pub mod ControlLaws
 pub mod DeliverLaws
 pub mod FetchLaws
+pub mod MemoryLaws
 pub mod MetLaws
+pub mod RegisterLaws
 pub mod RunLaws
 pub mod SendLaws
 pub mod SendReadLaws

@@ -1,5 +1,5 @@
 -- Laws of tables of causes: each part of a program agrees with its row.
-use Rattle.std.proofs.Common.{◌≡◌, ℕ, zero, suc, Bool, true, false, ◌||◌, cond, List, [], ◌∷◌, ◌++◌, length, drop, Option, Some, None, refl, sym, ap, ◌∙◌, subst}
+use Rattle.std.proofs.Common.{◌≡◌, ℕ, zero, suc, Bool, true, false, ◌||◌, cond, List, [], ◌∷◌, ◌++◌, ◌==◌, length, drop, Option, Some, None, refl, sym, ap, ◌∙◌, subst}
 use Rattle.std.specs.Prelude.{unwrap_or, is_none, pos, option_and_then}
 use Rattle.std.specs.List.{last_or}
 use Rattle.std.proofs.lemmas.List.{drop-map}
@@ -12,17 +12,17 @@ use Rattle.argo_model.specs.declared.scripts.Actor.TheVariants.{Vcpu}
 use Rattle.argo_model.specs.declared.action.Action.{Action}
 use Rattle.argo_model.specs.declared.action.Action.TheVariants.{Rest}
 use Rattle.argo_model.specs.declared.action.Outcome.{Outcome}
-use Rattle.argo_model.specs.declared.action.Outcome.TheVariants.{Done, Gone}
+use Rattle.argo_model.specs.declared.action.Outcome.TheVariants.{Done, Bytes, Fault, Refused, Accepted, Swept, NoMore, Answer, Flag, Gone}
 use Rattle.argo_model.specs.declared.reply.Reply.{Reply}
 use Rattle.argo_model.specs.declared.reply.Reply.TheVariants.{Number, Gone as gone}
-use Rattle.argo_model.specs.Rules.State.{State}
-use Rattle.argo_model.specs.Rules.Act.{act}
+use Rattle.argo_model.specs.Rules.State.{State, Domain, Live, domain_of}
+use Rattle.argo_model.specs.Rules.Act.{act, act_of, act_if_live, act_if_there}
 use Rattle.argo_model.specs.Rules.Effects.{Change, refuse_if}
 use Rattle.argo_model.specs.Rules.Outcomes.{is_gone}
 use Rattle.argo_model.specs.Programs.Asks.{Rests, Say, ask, fetch_all, refusal, refuse_if as refuses_if, refuse_at_once_if, read, say_done, unless_gone}
 use Rattle.argo_model.specs.Laws.Transitions.{Transition}
 use Rattle.argo_model.specs.Laws.SendCauses.{found, says, row}
-use Rattle.reply_causes.specs.Tables.{last_state, unless_lost, case}
+use Rattle.reply_causes.specs.Tables.{last_state, unless_lost, case, zero_reply}
 use Rattle.reply_causes.proofs.StepLaws.{Ends, Performs, Asked, By, asked, Tells, told, said, vanished, any_gone, befores, last-drop, Over, Lost as Vanished, Replied, always}
 use Rattle.reply_causes.proofs.FetchLaws.{Fetched, Lost, Missed, Found, fetch_all-ends}
 
@@ -99,3 +99,41 @@ act-over actor a f q n ts r closes answers h = first (asked actor a f (drop n ts
         let E : Outcome → Type 0 = λ o. Ends actor (λ os. unless_gone o f os) later r in
         let same = told actor f (act actor a t.before).outcome (q t.before) later r tells (subst E does.outcome end) in
         Replied (ap any_gone split ∙ ap (λ o. is_gone o || any_gone later) does.outcome ∙ ap (λ b. b || any_gone later) tells.stays ∙ ap any_gone same.0) (ap q at ∙ same.1)
+
+-- an act of a virtual CPU, whose domain lives or is gone
+pub at_life : (s : State) (d generation : ℕ) (a : Action) (f : Outcome → Rests) (q : Reply)
+    → ((x : Domain) (live : Live) → domain_of s d ≡ Some x → x.life ≡ Some live → Answers f (act_of s d x live a).outcome q)
+    → Answers f (act (Vcpu d generation) a s).outcome q
+at_life s d generation a f q acts = by (domain_of s d) refl where
+  life : (x : Domain) → domain_of s d ≡ Some x → (b : Bool) (l : Option Live) → x.life ≡ l → Answers f (act_if_live s d x (cond b l None) a).outcome q
+  life x here false l is = Vanishes refl
+  life x here true None is = Vanishes refl
+  life x here true (Some live) is = acts x live here is
+  by : (o : Option Domain) → domain_of s d ≡ o → Answers f (act_if_there s d generation o a).outcome q
+  by None here = Vanishes refl
+  by (Some x) here = life x here (x.generation == generation) x.life refl
+
+-- an act that is done or refused
+pub refused-tells : (e : Errno) → Tells say_done (Refused e) (says e)
+refused-tells e = record { stays = refl; says = refl }
+
+pub done-tells : Tells say_done Done zero_reply
+done-tells = record { stays = refl; says = refl }
+
+-- a test that refuses in an act
+pub tells_if : {X : Type 0} (b : Bool) (e : Errno) (c : Change X) (q : Reply) → Tells say_done c.outcome q → Tells say_done (refuse_if b e c).outcome (row b e q)
+tells_if true e c q h = refused-tells e
+tells_if false e c q h = h
+
+-- no step follows such an act
+pub done_closes : (actor : Actor) (o : Outcome) (ts : List Transition) (r : Reply) → Ends actor (λ os. unless_gone o say_done os) ts r → ts ≡ []
+done_closes actor Done ts r h = (said actor zero_reply ts r h).0
+done_closes actor (Bytes bs) ts r h = (said actor zero_reply ts r h).0
+done_closes actor Fault ts r h = (said actor zero_reply ts r h).0
+done_closes actor (Refused e) ts r h = (said actor (says e) ts r h).0
+done_closes actor (Accepted n) ts r h = (said actor zero_reply ts r h).0
+done_closes actor (Swept serial) ts r h = (said actor zero_reply ts r h).0
+done_closes actor NoMore ts r h = (said actor zero_reply ts r h).0
+done_closes actor (Answer a) ts r h = (said actor zero_reply ts r h).0
+done_closes actor (Flag b) ts r h = (said actor zero_reply ts r h).0
+done_closes actor Gone ts r h = (said actor gone ts r h).0
