@@ -1,8 +1,9 @@
 -- Laws of tables of causes: each part of a program agrees with its row.
-use Rattle.std.proofs.Common.{◌≡◌, ℕ, zero, suc, Bool, true, false, ◌||◌, cond, List, [], ◌∷◌, ◌++◌, ◌==◌, length, drop, Option, Some, None, refl, sym, ap, ◌∙◌, subst}
+use Rattle.std.proofs.Common.{◌≡◌, ℕ, ◌+◌, Bool, true, false, ◌||◌, cond, List, [], ◌∷◌, ◌++◌, ◌==◌, length, drop, Option, Some, None, refl, sym, ap, ◌∙◌, subst}
 use Rattle.std.specs.Prelude.{unwrap_or, is_none, pos, option_and_then}
 use Rattle.std.specs.List.{last_or}
 use Rattle.std.proofs.lemmas.List.{drop-map}
+use Rattle.std.proofs.Math.Seq.{drop-drop}
 use Rattle.argo_base.specs.declared.errno.Errno.{Errno}
 use Rattle.argo_base.specs.declared.errno.Errno.TheVariants.{Fault as efault}
 use Rattle.argo_base.specs.declared.piece.Piece.{Piece}
@@ -20,6 +21,7 @@ use Rattle.argo_model.specs.Rules.Act.{act, act_of, act_if_live, act_if_there}
 use Rattle.argo_model.specs.Rules.Effects.{Change, refuse_if}
 use Rattle.argo_model.specs.Rules.Outcomes.{is_gone}
 use Rattle.argo_model.specs.Programs.Asks.{Rests, Say, ask, fetch_all, refusal, refuse_if as refuses_if, refuse_at_once_if, read, say_done, unless_gone}
+use Rattle.argo_model.specs.Programs.Recv.{say_if}
 use Rattle.argo_model.specs.Laws.Transitions.{Transition}
 use Rattle.argo_model.specs.Laws.SendCauses.{found, says, row}
 use Rattle.reply_causes.specs.Tables.{last_state, unless_lost, case, zero_reply}
@@ -137,3 +139,22 @@ done_closes actor NoMore ts r h = (said actor zero_reply ts r h).0
 done_closes actor (Answer a) ts r h = (said actor zero_reply ts r h).0
 done_closes actor (Flag b) ts r h = (said actor zero_reply ts r h).0
 done_closes actor Gone ts r h = (said actor gone ts r h).0
+
+-- a test that replies
+pub replies-over : (actor : Actor) (b : Bool) (p q : Reply) (k : Rests) (ts : List Transition) (r : Reply) → Ends actor (λ os. say_if b p k os) ts r
+    → (Ends actor k ts r → Over q ts r) → Over (case b p q) ts r
+replies-over actor true p q k ts r h later = says-over actor p ts r h
+replies-over actor false p q k ts r h later = later h
+
+-- a range that is fetched after n steps
+pub fetch-later : (d generation : ℕ) (ps : List Piece) (failed q : Reply) (k : List ℕ → Rests) (n : ℕ) (ts : List Transition) (r : Reply)
+    → Ends (Vcpu d generation) (λ os. fetch_all ps [] (Say failed) k os) (drop n ts) r
+    → (Ends (Vcpu d generation) (k (unwrap_or (found d ps (drop n (befores ts))) [])) (drop (n + length ps) ts) r → Over q (drop (n + length ps) ts) r)
+    → Over (case (is_none (found d ps (drop n (befores ts)))) failed q) (drop n ts) r
+fetch-later d generation ps failed q k n ts r h later =
+    let P : List State → Type 0 = λ states. (Ends (Vcpu d generation) (k (unwrap_or (found d ps states) [])) (drop (n + length ps) ts) r → Over q (drop (n + length ps) ts) r)
+      → Over (case (is_none (found d ps states)) failed q) (drop n ts) r in
+    let Q : List Transition → Type 0 = λ xs. (Ends (Vcpu d generation) (k (unwrap_or (found d ps (befores (drop n ts))) [])) xs r → Over q xs r)
+      → Over (case (is_none (found d ps (befores (drop n ts)))) failed q) (drop n ts) r in
+    subst P (sym (drop-map (λ (t : Transition). t.before) n ts)) (
+    subst Q (drop-drop (length ps) n ts) (fetch-over d generation ps failed q k (drop n ts) r h)) later

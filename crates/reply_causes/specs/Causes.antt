@@ -1,5 +1,5 @@
 -- The table of each line.
-use Rattle.std.specs.Prelude.{◌≡◌, ℕ, List}
+use Rattle.std.specs.Prelude.{◌≡◌, ℕ, ◌*◌, List}
 use Rattle.argo_base.specs.declared.errno.Errno.TheVariants.{OpNotSupp}
 use Rattle.argo_model.specs.declared.scripts.Actor.{Actor}
 use Rattle.argo_model.specs.declared.scripts.Actor.TheVariants.{Vcpu}
@@ -11,17 +11,26 @@ use Rattle.argo_model.specs.Programs.Program.{Command, RegisterRing, UnregisterR
 use Rattle.argo_model.specs.Laws.Transitions.{Transition}
 use Rattle.argo_model.specs.Laws.SendCauses.{Send, says, cause_of, looked_at}
 use Rattle.reply_causes.specs.Plays.{PlaysTo}
-use Rattle.reply_causes.specs.Tables.{Call, states_of, last_state, unless_lost, zero_reply}
+use Rattle.reply_causes.specs.Tables.{Call, states_of, last_state, unless_lost}
 use Rattle.reply_causes.specs.ControlCauses.{cause_of_destroy, cause_of_reset, cause_of_create}
 use Rattle.reply_causes.specs.RegisterCauses.{cause_of_register, cause_of_unregister, register_looked, unregister_looked}
+use Rattle.reply_causes.specs.NotifyCauses.{cause_of_notify}
+use Rattle.reply_causes.specs.RecvCauses.{cause_of_recv, recv_looked}
 use Rattle.reply_causes.specs.MemoryCauses.{cause_of_store, cause_of_load, cause_of_await}
+
+-- the send that a call is, and its cause
+abbrev pub send_of_call : Call → Send
+send_of_call c = record { caller = c.caller; a1 = c.a1; a2 = c.a2; a3 = c.a3; a4 = c.a4 }
+
+abbrev pub cause_of_send : Call → List State → Reply
+cause_of_send c states = cause_of (send_of_call c) (looked_at (send_of_call c) states)
 
 -- of a hypercall, by its command
 abbrev pub cause_of_op : Command → Call → List State → Reply
 cause_of_op RegisterRing c states = cause_of_register c (register_looked c states)
 cause_of_op UnregisterRing c states = cause_of_unregister c (unregister_looked c states)
-cause_of_op SendV c states = zero_reply
-cause_of_op Notify c states = zero_reply
+cause_of_op SendV c states = cause_of_send c states
+cause_of_op Notify c states = cause_of_notify c states
 cause_of_op Unknown c states = says OpNotSupp
 
 -- the cause of a line's reply in the states that its steps found, where none was `Gone`
@@ -30,7 +39,7 @@ cause_of_line d (Store at bytes) states = cause_of_store d at bytes states
 cause_of_line d (Load at n) states = cause_of_load d at n states
 cause_of_line d (Op c a1 a2 a3 a4) states = cause_of_op (command_of c) (record { caller = d; a1 = a1; a2 = a2; a3 = a3; a4 = a4 }) states
 cause_of_line d (Await turns) states = cause_of_await d states
-cause_of_line d (Recv page len) states = zero_reply
+cause_of_line d (Recv page len) states = cause_of_recv len (recv_looked d (page * 4096) len states)
 cause_of_line d (Destroy dom) states = cause_of_destroy dom (last_state states)
 cause_of_line d (Reset dom) states = cause_of_reset dom (last_state states)
 cause_of_line d (Create dom) states = cause_of_create dom (last_state states)
@@ -68,6 +77,12 @@ RegistersHaveCauses = OpsHaveCauses 1
 
 abbrev pub UnregistersHaveCauses : Type 0
 UnregistersHaveCauses = OpsHaveCauses 2
+
+abbrev pub NotifiesHaveCauses : Type 0
+NotifiesHaveCauses = OpsHaveCauses 4
+
+abbrev pub RecvsHaveCauses : Type 0
+RecvsHaveCauses = (d generation page len : ℕ) → HasCauses (Vcpu d generation) (Recv page len)
 
 -- those of no command
 abbrev pub UnknownsHaveCauses : Type 0

@@ -1,6 +1,7 @@
 pub mod Causes
 pub mod ControlCauses
 pub mod MemoryCauses
+pub mod NotifyCauses
 pub mod Plays
 pub mod RecvCauses
 pub mod RegisterCauses

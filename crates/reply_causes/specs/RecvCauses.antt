@@ -43,7 +43,7 @@ cause_of_recv len l =
     case (is_none l.body) Fault (
     case (is_none l.moved) Fault (received (head_of l) (unwrap_or l.body [])))))))))
 
--- the pieces that hold the rx word, the tx word, and the header and the body of the message at the rx word
+-- the pieces of the ring that a recv looks at: the rx word, the tx word, and at a place the header and the body of a message
 abbrev pub rx_pieces : ℕ → List Piece
 rx_pieces ring = pieces ring 4
 
@@ -56,19 +56,44 @@ head_pieces ring len rx = slot_pieces ring len rx 16
 abbrev pub body_pieces : ℕ → ℕ → ℕ → List ℕ → List Piece
 body_pieces ring len rx head = slot_pieces ring len (place_after len rx 16) (u32_at head 0 - 16)
 
--- what is found of the header, after these states
-abbrev pub head_found : ℕ → ℕ → ℕ → ℕ → List State → Option (List ℕ)
-head_found d ring len rx states = found d (head_pieces ring len rx) states
+-- how many steps the words take, and how many they take with the header, and with the body
+abbrev pub word_steps : ℕ → ℕ
+word_steps ring = length (rx_pieces ring) + length (tx_pieces ring)
 
--- what a recv looked at in a ring, of the states at its steps: the header after the words, the body after the header, and the rx word
--- after the body
-abbrev pub looked_behind : ℕ → ℕ → ℕ → Option (List ℕ) → Option (List ℕ) → Option (List ℕ) → ℕ → List State → Looked
-looked_behind d ring len rx tx head n states =
-    let ps = body_pieces ring len (u32_at (unwrap_or rx []) 0) (unwrap_or head []) in
+abbrev pub head_steps : ℕ → ℕ → ℕ → ℕ
+head_steps ring len rx = word_steps ring + length (head_pieces ring len rx)
+
+abbrev pub body_steps : ℕ → ℕ → ℕ → List ℕ → ℕ
+body_steps ring len rx head = head_steps ring len rx + length (body_pieces ring len rx head)
+
+-- each of them as its steps found it
+abbrev pub rx_found : ℕ → ℕ → List State → Option (List ℕ)
+rx_found d ring states = found d (rx_pieces ring) states
+
+abbrev pub rx_in : ℕ → ℕ → List State → ℕ
+rx_in d ring states = u32_at (unwrap_or (rx_found d ring states) []) 0
+
+abbrev pub head_found : ℕ → ℕ → ℕ → List State → Option (List ℕ)
+head_found d ring len states = found d (head_pieces ring len (rx_in d ring states)) (drop (word_steps ring) states)
+
+abbrev pub head_in : ℕ → ℕ → ℕ → List State → List ℕ
+head_in d ring len states = unwrap_or (head_found d ring len states) []
+
+abbrev pub body_found : ℕ → ℕ → ℕ → List State → Option (List ℕ)
+body_found d ring len states =
+    found d (body_pieces ring len (rx_in d ring states) (head_in d ring len states)) (drop (head_steps ring len (rx_in d ring states)) states)
+
+abbrev pub moved_found : ℕ → ℕ → ℕ → List State → Option (List ℕ)
+moved_found d ring len states =
+    found d (rx_pieces ring) (drop (body_steps ring len (rx_in d ring states) (head_in d ring len states)) states)
+
+-- what a recv looked at in a ring, in the states at its steps
+abbrev pub recv_looked : ℕ → ℕ → ℕ → List State → Looked
+recv_looked d ring len states =
     record {
-      rx = rx;
-      tx = tx;
-      head = head;
-      body = found d ps (drop n states);
-      moved = found d (rx_pieces ring) (drop (n + length ps) states);
+      rx = rx_found d ring states;
+      tx = found d (tx_pieces ring) (drop (length (rx_pieces ring)) states);
+      head = head_found d ring len states;
+      body = body_found d ring len states;
+      moved = moved_found d ring len states;
     }
