@@ -1,0 +1,14 @@
+pub mod ControlLaws
+pub mod DeliverLaws
+pub mod FetchLaws
+pub mod MemoryLaws
+pub mod MetLaws
+pub mod RecvLaws
+pub mod RegisterLaws
+pub mod RunLaws
+pub mod SendLaws
+pub mod SendReadLaws
+pub mod SizeLaws
+pub mod StepLaws
+pub mod TableLaws
+pub mod TestLaws
