@@ -1,0 +1,10 @@
+pub mod CleanLaws
+pub mod HoldLaws
+pub mod MoveLaws
+pub mod NoticeLaws
+pub mod OfferLaws
+pub mod RingLaws
+pub mod RoundLaws
+pub mod SpellingLaws
+pub mod TestLaws
+pub mod WordLaws

@@ -1,0 +1,5 @@
+pub mod Clean
+pub mod Held
+pub mod Offers
+pub mod Puts
+pub mod Restarts

@@ -1,0 +1,56 @@
+//! Puts into the pages of a ring, and reads of them.
+ghost use Rattle.std.specs.Prelude.{◌≡◌, ℕ, ◌+◌, ◌*◌, ◌%◌, ◌<◌, ◌≤◌, length, take, drop};
+ghost use Rattle.argo_base.specs.Limits.{page_bytes};
+ghost use Rattle.argo_base.specs.Slots.{page_count};
+ghost use Rattle.argo_base.specs.Splice.{splice};
+ghost use Rattle.guest_pages.specs.Rows.{numbers_of, row_bytes};
+ghost use Rattle.ring_core.specs.Held.{paged, Keeps};
+ghost use Rattle.ring_core.specs.Puts.{put_in};
+
+use crate::puts::{keep, moves, touches};
+use crate::ring::Ring;
+use argo_base::PAGE_BYTES;
+use guest_pages::PageRow;
+use ring_space::rx_word;
+
+impl Ring {
+    /// Puts bytes from a byte of the ring on, inside one of its pages. A put of exactly the four bytes of the rx word that moves
+    /// it over messages takes these; any other that touches a word or a slot makes a clean ring dirty. It takes no memory.
+    pub fn write(&mut self, at: u32, bytes: &[u8])
+        requires inside { at < page_bytes * page_count self.old.len }
+        requires in_page { at % page_bytes + length bytes.now ≤ page_bytes }
+        ensures left { (serial : ℕ) → paged serial self.new ≡ put_in (paged serial self.old) at bytes.now }
+        ensures keeps { Keeps self.old self.new }
+    {
+        if !self.clean {
+            write_at(&mut self.row, at, bytes);
+            return;
+        }
+        let rx = rx_word(&self.row);
+        let moved = moves(self.len, rx, self.untaken.messages(), at, bytes);
+        let touched = touches(self.len, at, bytes.len());
+        self.clean = keep(&mut self.untaken, moved, touched);
+        write_at(&mut self.row, at, bytes);
+    }
+
+    /// Copies bytes of the ring from a byte of it on, inside one of its pages, as many as the buffer takes.
+    pub fn read(&self, at: u32, buf: &mut [u8])
+        requires inside { at < page_bytes * page_count self.now.len }
+        requires in_page { at % page_bytes + length buf.old ≤ page_bytes }
+        ensures { buf.new ≡ take (length buf.old) (drop at (row_bytes self.now.row)) }
+    {
+        self.row
+            .read((at / PAGE_BYTES) as usize, at % PAGE_BYTES, buf);
+    }
+}
+
+// Writes bytes into the page of a row in which a byte stands.
+fn write_at(row: &mut PageRow, at: u32, bytes: &[u8])
+    requires inside { at < page_bytes * length row.old }
+    requires in_page { at % page_bytes + length bytes.now ≤ page_bytes }
+    ensures numbers { numbers_of row.new ≡ numbers_of row.old }
+    ensures bytes { row_bytes row.new ≡ splice (row_bytes row.old) at bytes.now }
+    ensures whole { length (row_bytes row.old) ≡ page_bytes * length row.old }
+{
+    row.write((at / PAGE_BYTES) as usize, at % PAGE_BYTES, bytes);
+}
