@@ -1,12 +1,11 @@
 -- The scripts that a number makes keep the rules of scripts.
-use Rattle.std.proofs.Common.{◌≡◌, ℕ, ◌+◌, ◌*◌, ◌≤◌, Bool, true, ◌&&◌, cond, List, [], ◌∷◌, ◌++◌, length, map, sum_by, count_by, refl, sym, ap, ◌∙◌, arith, length-append}
+use Rattle.std.proofs.Common.{◌≡◌, ℕ, ◌+◌, ◌*◌, ◌≤◌, Bool, true, cond, List, [], ◌∷◌, length, map, sum_by, count_by, refl, sym, ap, ◌∙◌, arith, length-append}
 use Rattle.std.specs.List.{range_with_len, flat_map, list_all}
 use Rattle.std.proofs.lemmas.Bool.{and_parts, and_from, le-leb}
 use Rattle.std.proofs.lemmas.List.Concat.{flat_map-cons}
 use Rattle.std.proofs.lemmas.List.Folds.{list_all-append}
 use Rattle.std.proofs.lemmas.List.FromFn.{length-range_with_len, length-map-range_with_len}
 use Rattle.std.proofs.lemmas.List.Sums.{sum_by-cons, sum_by-append}
-use Rattle.argo_model.specs.declared.line.Line.{Line}
 use Rattle.argo_model.specs.declared.scripts.DomainLine.{DomainLine}
 use Rattle.argo_model.specs.Runs.Script.{Section, is_vcpu_line, is_line_of_one, names_known, turns_of, has_domain, is_control, is_known_section, is_section_of_one, is_lawful_section, are_lawful_domains, are_domains_within, are_sections_within, is_lawful}
 use Rattle.argo_model.specs.Examples.Words.{domain, section}
@@ -62,8 +61,13 @@ no_turns x d rounds =
 line_count : (x d rounds : ℕ) → length (lines_from x d rounds) ≡ 4 + 5 * rounds
 line_count x d rounds =
     let few : length (opening_lines d) ≡ 4 = refl in
-    omega (arith, few, length-append (opening_lines d) (flat_map (round_from x d) (range_with_len 1 rounds)), five_each (round_from x d) (λ k. refl) (range_with_len 1 rounds),
-    length-range_with_len 1 rounds)
+    omega (
+      arith,
+      few,
+      length-append (opening_lines d) (flat_map (round_from x d) (range_with_len 1 rounds)),
+      five_each (round_from x d) (λ k. refl) (range_with_len 1 rounds),
+      length-range_with_len 1 rounds,
+    )
 
 lines_in_all : (x d : ℕ) → length (lines_from x d round_count) ≡ 1004
 unfolding round_count

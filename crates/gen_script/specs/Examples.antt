@@ -1,6 +1,5 @@
 -- A worked example: the first lines of the scripts of 0.
-use Rattle.std.specs.Prelude.{◌≡◌, List, [], ◌∷◌, ◌++◌, take, replicate}
-use Rattle.argo_model.specs.declared.line.Line.{Line}
+use Rattle.std.specs.Prelude.{◌≡◌, [], ◌∷◌, take, replicate}
 use Rattle.argo_model.specs.declared.line.Line.TheVariants.{Store, Op}
 use Rattle.gen_script.specs.Made.{drawn, next_number, lines_from}
 

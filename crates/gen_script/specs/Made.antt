@@ -15,7 +15,6 @@ domain_count = 8
 unfoldable pub round_count : ℕ
 round_count = 200
 
-
 -- the generator's number after this one
 abbrev pub next_number : ℕ → ℕ
 next_number x = (x * 6364136223846793005 + 1442695040888963407) % 2 ^ 64

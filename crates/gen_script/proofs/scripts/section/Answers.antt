@@ -1,10 +1,8 @@
-use Rattle.std.proofs.Common.{◌≡◌, ℕ, ◌+◌, ◌-◌, ◌*◌, ◌%◌, ◌≤◌, ◌++◌, List, sym, ap, subst, ◌∙◌, arith, IsTrue}
+use Rattle.std.proofs.Common.{◌≡◌, ℕ, ◌+◌, ◌-◌, ◌*◌, ◌%◌, ◌≤◌, ◌++◌, List, sym, ap, ◌∙◌, arith}
 use Rattle.argo_model.specs.declared.line.Line.{Line}
-use Rattle.argo_model.specs.Runs.Script.{is_lawful_section}
 use Rattle.argo_model.specs.Examples.Words.{section}
 use Rattle.gen_script.specs.Made.{number_after, round_lines, drawn, lines_from, round_count}
 use Rattle.gen_script.proofs.MadeLaws.{lines_from-more, first_draw, second_draw, rounds_are}
-use Rattle.gen_script.proofs.Lawful.{lawful_section}
 use Rattle.gen_script.proofs.scripts.section.Goals as goal
 
 all_rounds : (rounds : ℕ) → rounds ≤ 200 → 200 ≤ rounds → rounds ≡ round_count
