@@ -2,6 +2,7 @@
 use Rattle.std.specs.Prelude.{ℕ, zero, suc, ◌+◌, ◌-◌, ◌*◌, ◌/◌, ◌%◌, ◌^◌, List, [], ◌∷◌, ◌++◌, map, replicate}
 use Rattle.std.specs.List.{flat_map, range_with_len}
 use Rattle.argo_base.specs.Layout.{addr_bytes, send_addr_bytes, iov_bytes}
+use Rattle.argo_base.specs.Limits.{page_bytes, header_bytes}
 use Rattle.argo_base.specs.Match.{wildcard}
 use Rattle.argo_model.specs.declared.line.Line.{Line}
 use Rattle.argo_model.specs.declared.line.Line.TheVariants.{Store, Op, Recv}
@@ -14,6 +15,10 @@ domain_count = 8
 
 unfoldable pub round_count : ℕ
 round_count = 200
+
+-- the slot bytes of a domain's ring: what its one page has behind the ring's header
+abbrev pub ring_bytes : ℕ
+ring_bytes = page_bytes - header_bytes
 
 -- the generator's number after this one
 abbrev pub next_number : ℕ → ℕ
@@ -30,17 +35,17 @@ drawn x = x / 2 ^ 33
 
 -- the first lines of domain d: a ring for all senders on its page 1, and the bytes that it will send, on its page 2
 abbrev pub opening_lines : ℕ → List Line
-opening_lines d = register_lines 1 wildcard 4032 1 ++ Store 0x2000 (replicate 64 d) ∷ []
+opening_lines d = register_lines 1 wildcard ring_bytes 1 ++ Store 0x2000 (replicate 64 d) ∷ []
 
 -- a round: domain d sends so many bytes to another with the round's number as their type, takes a message, and sweeps its rings
 abbrev pub round_lines : (d to size round : ℕ) → List Line
 round_lines d to size round =
     Store 0x20 (send_addr_bytes (addr_bytes 1 d 0) (addr_bytes 1 to 0)) ∷ Store 0x30 (iov_bytes 0x2000 size 0) ∷ Op 3 0x20 0x30 1 round
-    ∷ Recv 1 4032 ∷ notify_line ∷ []
+    ∷ Recv 1 ring_bytes ∷ notify_line ∷ []
 
--- the round's first draw says to whom it sends, and its second how much
+-- the round's first draw says to which of the domains it sends, and its second how much
 abbrev pub drawn_lines : (d first second round : ℕ) → List Line
-drawn_lines d first second round = round_lines d (1 + first % 8) (second % 1024) round
+drawn_lines d first second round = round_lines d (1 + first % domain_count) (second % 1024) round
 
 -- round k of domain d, counted from 1, where the generator stands at x before the first round
 abbrev pub round_from : ℕ → ℕ → ℕ → List Line

@@ -1,8 +1,8 @@
 use Rattle.std.proofs.Common.{◌≡◌, ℕ, ◌+◌, ◌-◌, ◌*◌, ◌%◌, ◌≤◌, ◌++◌, List, sym, ap, ◌∙◌, arith}
 use Rattle.argo_model.specs.declared.line.Line.{Line}
 use Rattle.argo_model.specs.Examples.Words.{section}
-use Rattle.gen_script.specs.Made.{number_after, round_lines, drawn, lines_from, round_count}
-use Rattle.gen_script.proofs.MadeLaws.{lines_from-more, first_draw, second_draw, rounds_are}
+use Rattle.gen_script.specs.Made.{number_after, round_lines, drawn, lines_from, round_count, domain_count}
+use Rattle.gen_script.proofs.MadeLaws.{lines_from-more, first_draw, second_draw, rounds_are, domains_are}
 use Rattle.gen_script.proofs.scripts.section.Goals as goal
 
 all_rounds : (rounds : ℕ) → rounds ≤ 200 → 200 ≤ rounds → rounds ≡ round_count
@@ -15,9 +15,9 @@ round_more x d k to size round number lines new so_far at to_is size_is round_is
     let first : drawn (number_after number 1) ≡ drawn (number_after x (2 * (k + 1) - 1)) = ap (λ n. drawn (number_after n 1)) at ∙ sym (ap drawn (first_draw x k)) in
     let second : drawn (number_after number 2) ≡ drawn (number_after x (2 * (k + 1))) = ap (λ n. drawn (number_after n 2)) at ∙ sym (ap drawn (second_draw x k)) in
     pushed ∙ ap (λ ls. ls ++ round_lines d to size round) so_far
-    ∙ ap (λ t. lines_from x d k ++ round_lines d t size round) (to_is ∙ ap (λ a. 1 + a % 8) first)
-    ∙ ap (λ s. lines_from x d k ++ round_lines d (1 + drawn (number_after x (2 * (k + 1) - 1)) % 8) s round) (size_is ∙ ap (λ b. b % 1024) second)
-    ∙ ap (λ r. lines_from x d k ++ round_lines d (1 + drawn (number_after x (2 * (k + 1) - 1)) % 8) (drawn (number_after x (2 * (k + 1))) % 1024) r) round_is
+    ∙ ap (λ t. lines_from x d k ++ round_lines d t size round) (to_is ∙ ap (λ a. 1 + a % 8) first ∙ ap (λ m. 1 + drawn (number_after x (2 * (k + 1) - 1)) % m) domains_are)
+    ∙ ap (λ s. lines_from x d k ++ round_lines d (1 + drawn (number_after x (2 * (k + 1) - 1)) % domain_count) s round) (size_is ∙ ap (λ b. b % 1024) second)
+    ∙ ap (λ r. lines_from x d k ++ round_lines d (1 + drawn (number_after x (2 * (k + 1) - 1)) % domain_count) (drawn (number_after x (2 * (k + 1))) % 1024) r) round_is
     ∙ sym (lines_from-more x d k)
 
 pub rounds-preserved : goal.rounds-preserved
