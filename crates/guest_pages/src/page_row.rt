@@ -68,7 +68,8 @@ impl PageRow {
     pub fn read(&self, place: usize, off: u32, buf: &mut [u8])
         requires inside { place < length self.now }
         requires in_page { off + length buf.old ≤ page_bytes }
-        ensures bytes { buf.new ≡ take (length buf.old) (drop (page_bytes * place + off) (row_bytes self.now)) }
+        ensures bytes { buf.new
+            ≡ take (length buf.old) (drop (page_bytes * place + off) (row_bytes self.now)) }
         ensures whole { length (row_bytes self.now) ≡ page_bytes * length self.now }
     {
         self.places[place].page().read(off, buf);
@@ -79,7 +80,8 @@ impl PageRow {
         requires inside { place < length self.old }
         requires in_page { off + length bytes.now ≤ page_bytes }
         ensures numbers { numbers_of self.new ≡ numbers_of self.old }
-        ensures bytes { row_bytes self.new ≡ splice (row_bytes self.old) (page_bytes * place + off) bytes.now }
+        ensures bytes { row_bytes self.new
+            ≡ splice (row_bytes self.old) (page_bytes * place + off) bytes.now }
         ensures whole { length (row_bytes self.old) ≡ page_bytes * length self.old }
     {
         self.places[place].page_mut().write(off, bytes);

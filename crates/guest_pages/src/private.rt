@@ -52,7 +52,8 @@ impl Private {
     /// A copy of `n` bytes of a page from an offset on, or none where the page is absent or lent.
     pub fn read(&self, page: u64, off: u32, n: u32) -> Result<Option<Bytes>, NoMemory>
         requires { off + n ≤ page_bytes }
-        ensures { IfOk result (λ r. r ≡ option_map (λ p. take n (drop off p)) (page_at self.now page)) }
+        ensures { IfOk result
+            (λ r. r ≡ option_map (λ p. take n (drop off p)) (page_at self.now page)) }
     {
         let Some(Some(page)) = self.slots.get(page as usize) else {
             return Ok(None);
@@ -106,7 +107,8 @@ impl Private {
         ensures row { IfOk result (λ row. row ≡ row_of (with_row self.old old) numbers.now) }
         ensures left { OnOk result (self.new ≡ without (with_row self.old old) numbers.now) }
         ensures could { OnOk result (IsTrue (can_lend (with_row self.old old) numbers.now)) }
-        ensures pages { IfErr result (λ e. e.1 ≡ LendFault.Pages → IsFalse (can_lend (with_row self.old old) numbers.now)) }
+        ensures pages { IfErr result
+            (λ e. e.1 ≡ LendFault.Pages → IsFalse (can_lend (with_row self.old old) numbers.now)) }
         ensures old_back { IfErr result (λ e. e.0 ≡ old) }
         ensures err { OnErr result (self.new ≡ self.old) }
     {

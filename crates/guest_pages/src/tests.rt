@@ -1,3 +1,4 @@
+//! Pages that are lent, and that come back with their bytes.
 use crate::{LendFault, Private};
 use argo_base::Bytes;
 use std::test::Fail;

@@ -1,3 +1,4 @@
+//! Gates of rising rank.
 use crate::examples::{Purse, bought};
 use crate::{Gate, Held, RwGate};
 use std::test::Fail;

@@ -81,7 +81,8 @@ impl Notices {
     /// Sets the domain's notice, or raises it to the greater size.
     pub fn note(&mut self, dom: DomId, n: u32) -> Note
         ensures note { result ≡ (if is_busy self.old dom then Note.Busy else Note.Noted) }
-        ensures left { self.new ≡ (if is_busy self.old dom then self.old else noted self.old dom n) }
+        ensures left { self.new
+            ≡ (if is_busy self.old dom then self.old else noted self.old dom n) }
     {
         match place_of(self.rows.as_slice(), dom) {
             Ok(place) => {

@@ -1,3 +1,4 @@
+//! The two copies against a plain loop, over the greatest ring.
 use crate::{page_count, read_run, write_run};
 use argo_base::slots::is_place;
 use guest_pages::{PageRow, Private};

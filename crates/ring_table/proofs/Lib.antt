@@ -1,4 +1,5 @@
 pub mod BucketLaws
+pub mod EditLaws
 pub mod EntryLaws
 pub mod FirstLaws
 pub mod ScanLaws

@@ -12,7 +12,8 @@ use Rattle.ring_table.specs.declared.row.Row.{Row}
 use Rattle.ring_table.specs.Rows.{held_of, most_rows}
 use Rattle.ring_table.specs.Buckets.{bucket_of, put_all, gathered, rows_in, IsBucket, AreBuckets, IsTable, AreEmpty, Made}
 use Rattle.ring_table.proofs.EntryLaws.{length-insert, length-remove, remove-absent}
-use Rattle.ring_table.proofs.BucketLaws.{Bucket, key_total, find, held_in, inserted, removed, table_after}
+use Rattle.ring_table.proofs.BucketLaws.{Bucket, key_total, find, held_in}
+use Rattle.ring_table.proofs.EditLaws.{inserted, removed, table_after}
 
 -- a table without a key's row
 module _ {T : Type 0} (bs : List (Bucket T)) (n : ℕ) (t : IsTable bs n) (key : RingKey) (j : ℕ) (at_key : j ≡ bucket_of key) (within : j < length bs)

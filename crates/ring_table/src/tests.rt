@@ -1,3 +1,4 @@
+//! The table at its limit, and the count of the rows that are reached.
 ghost use Rattle.std.specs.Prelude.{◌≡◌};
 ghost use Rattle.argo_base.specs.Match.{key_of};
 

@@ -1,3 +1,4 @@
+//! Rings come out by rising id.
 use crate::SendList;
 use argo_base::{DomId, RingId};
 use std::test::Fail;

@@ -6,7 +6,8 @@ use Rattle.argo_base.specs.Match.{key_cmp}
 use Rattle.ring_table.specs.Rows.{held_of, held_at}
 use Rattle.ring_table.specs.Edits.{with_value}
 use Rattle.ring_table.specs.Buckets.{rows_in}
-use Rattle.ring_table.proofs.BucketLaws.{find, held_in, lends_as, lent_rows, lent_table}
+use Rattle.ring_table.proofs.BucketLaws.{find, held_in}
+use Rattle.ring_table.proofs.EditLaws.{lends_as, lent_rows, lent_table}
 use Rattle.ring_table.proofs.table.Table.find_exact_mut.Goals as goal
 
 pub returns-in_default-get_mut : goal.returns-in_default-get_mut
