@@ -3,6 +3,7 @@ pub mod DeliverLaws
 pub mod FetchLaws
 pub mod MemoryLaws
 pub mod MetLaws
+pub mod NotifyLaws
 pub mod RecvLaws
 pub mod RegisterLaws
 pub mod RunLaws
