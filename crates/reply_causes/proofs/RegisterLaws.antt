@@ -147,11 +147,14 @@ unregisters_have_causes d generation a1 a2 a3 a4 ts r h =
     over-cause (cause_of_unregister c (unregister_looked c (befores ts))) ts r (
     unregister-over c generation ts r (ends (Vcpu d generation) (λ os. unregister_ring a1 a2 a3 a4 os) ts r h))
 
+pub unknown-cause : (d generation a1 a2 a3 a4 : ℕ) (ts : List Transition) (r : Reply)
+    → PlaysTo (Vcpu d generation) (λ os. op d Unknown a1 a2 a3 a4 os) ts r → r ≡ unless_lost ts (says OpNotSupp)
+unknown-cause d generation a1 a2 a3 a4 ts r h =
+    over-cause (says OpNotSupp) ts r (always (Vcpu d generation) Rest (says OpNotSupp) ts r (ends (Vcpu d generation) (λ os. op d Unknown a1 a2 a3 a4 os) ts r h))
+
 pub unknowns_have_causes : UnknownsHaveCauses
 unknowns_have_causes c none d generation a1 a2 a3 a4 ts r h =
     let call : Call = record { caller = d; a1 = a1; a2 = a2; a3 = a3; a4 = a4 } in
     let P : Command → Type 0 = λ x. PlaysTo (Vcpu d generation) (λ os. op d x a1 a2 a3 a4 os) ts r in
     let Q : Command → Type 0 = λ x. r ≡ unless_lost ts (cause_of_op x call (states_of ts)) in
-    subst Q (sym none) (
-    over-cause (says OpNotSupp) ts r (
-    always (Vcpu d generation) Rest (says OpNotSupp) ts r (ends (Vcpu d generation) (λ os. op d Unknown a1 a2 a3 a4 os) ts r (subst P none h))))
+    subst Q (sym none) (unknown-cause d generation a1 a2 a3 a4 ts r (subst P none h))

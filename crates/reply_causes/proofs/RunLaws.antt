@@ -32,7 +32,7 @@ get-others (z ∷ zs) (suc u) zero y h = refl
 get-others (z ∷ zs) (suc u) (suc v) y h = get-others zs u v y (λ same. h (ap suc same))
 
 -- the steps of two programs that do the same are the same
-plays-same : (actor : Actor) (k l : Rests) (ts : List Transition) → ((os : List Outcome) → k os ≡ l os) → Plays actor k ts → Plays actor l ts
+pub plays-same : (actor : Actor) (k l : Rests) (ts : List Transition) → ((os : List Outcome) → k os ≡ l os) → Plays actor k ts → Plays actor l ts
 plays-same actor k l [] same h = tt
 plays-same actor k l (t ∷ ts) same h =
     (record {
@@ -44,21 +44,21 @@ plays-same actor k l (t ∷ ts) same h =
     }, plays-same actor (λ os. k (t.step.outcome ∷ os)) (λ os. l (t.step.outcome ∷ os)) ts (λ os. same (t.step.outcome ∷ os)) h.1)
 
 -- the transitions of a line from a course on
-abbrev from : Course → List ℕ → ℕ → ℕ → List Transition
+abbrev pub from : Course → List ℕ → ℕ → ℕ → List Transition
 from c vs v k = transitions_of_line v k (transitions_from c vs)
 
 abbrev is_of : ℕ → ℕ → Transition → Bool
 is_of v k d = (d.step.vcpu == v) && (d.step.line == k)
 
 -- what a line that is left still does
-abbrev still : Progress → ℕ → Line → Rests
+abbrev pub still : Progress → ℕ → Line → Rests
 still p zero line os = program p.actor line (p.outcomes ++ os)
 still p (suc i) line os = program p.actor line os
 
 -- from a course on, a section makes no more steps of lines that are done, and steps of those that are left
-record IsAhead (c : Course) (vs : List ℕ) (v : ℕ) (p : Progress) : Type 0 where
-  done : (k : ℕ) → k ≤ p.done → from c vs v k ≡ []
-  left : (i : ℕ) (line : Line) → slice_get p.left i ≡ Some line → Plays p.actor (still p i line) (from c vs v (p.done + 1 + i))
+pub record IsAhead (c : Course) (vs : List ℕ) (v : ℕ) (p : Progress) : Type 0 where
+  pub done : (k : ℕ) → k ≤ p.done → from c vs v k ≡ []
+  pub left : (i : ℕ) (line : Line) → slice_get p.left i ≡ Some line → Plays p.actor (still p i line) (from c vs v (p.done + 1 + i))
 
 -- where the same transitions follow, the same holds
 ahead-same : (c d : Course) (vs ws : List ℕ) (v : ℕ) (p : Progress) → ((k : ℕ) → from c vs v k ≡ from d ws v k) → IsAhead d ws v p → IsAhead c vs v p
@@ -139,7 +139,7 @@ is_turn c v us p t here some line =
   not_last false = refl
 
 -- a line that is not the first has had no outcomes
-still-fresh : (p : Progress) (i : ℕ) (line : Line) (os : List Outcome) → p.outcomes ≡ [] → still p i line os ≡ program p.actor line os
+pub still-fresh : (p : Progress) (i : ℕ) (line : Line) (os : List Outcome) → p.outcomes ≡ [] → still p i line os ≡ program p.actor line os
 still-fresh p zero line os none = ap (λ xs. program p.actor line (xs ++ os)) none
 still-fresh p (suc i) line os none = refl
 
@@ -219,7 +219,7 @@ ahead-turn c v us p line rest a here lines next later = by (program p.actor line
   by (Say r) same = ends_line r same
 
 -- whatever the schedule is
-ahead : (vs : List ℕ) (c : Course) (v : ℕ) (p : Progress) → slice_get c.sections v ≡ Some p → IsAhead c vs v p
+pub ahead : (vs : List ℕ) (c : Course) (v : ℕ) (p : Progress) → slice_get c.sections v ≡ Some p → IsAhead c vs v p
 ahead [] c v p here = record { done = λ k few. refl; left = λ i line there. tt }
 ahead (u ∷ us) c v p here = by (u == v) refl (λ d q there. ahead us d v q there) where
   lines : (left : List Line) → p.left ≡ left → ((d : Course) (q : Progress) → slice_get d.sections v ≡ Some q → IsAhead d us v q) → IsAhead c (v ∷ us) v p

@@ -5,5 +5,6 @@ pub mod NotifyCauses
 pub mod Plays
 pub mod RecvCauses
 pub mod RegisterCauses
+pub mod Runs
 pub mod Sends
 pub mod Tables
