@@ -7,6 +7,7 @@ pub mod MetLaws
 pub mod NotifyLaws
 pub mod RecvLaws
 pub mod RegisterLaws
+pub mod Rows
 pub mod RunLaws
 pub mod SendLaws
 pub mod SendReadLaws

@@ -30,7 +30,7 @@ use Rattle.reply_causes.proofs.SendReadLaws.{sends_have_causes}
 call_has_cause : (command : Command) (d generation a1 a2 a3 a4 : ℕ) (ts : List Transition) (r : Reply)
     → PlaysTo (Vcpu d generation) (λ os. op d command a1 a2 a3 a4 os) ts r
     → (r ≡ unless_lost ts (cause_of_op command (record { caller = d; a1 = a1; a2 = a2; a3 = a3; a4 = a4 }) (states_of ts)))
-      × CallHasCause command (record { caller = d; a1 = a1; a2 = a2; a3 = a3; a4 = a4 }) ts r
+    × CallHasCause command (record { caller = d; a1 = a1; a2 = a2; a3 = a3; a4 = a4 }) ts r
 call_has_cause RegisterRing d generation a1 a2 a3 a4 ts r h = (registers_have_causes d generation a1 a2 a3 a4 ts r h, tt)
 call_has_cause UnregisterRing d generation a1 a2 a3 a4 ts r h = (unregisters_have_causes d generation a1 a2 a3 a4 ts r h, tt)
 call_has_cause SendV d generation a1 a2 a3 a4 ts r h =
@@ -71,6 +71,7 @@ step-more c u = by (slice_get c.sections u) where
   turns : (q : Progress) (t : Option Turn) → (after_turn c u t).steps ≡ c.steps ++ map (λ (t : Transition). t.step) (option_to_list (option_map (transition_of c.state u q) t))
   turns q None = sym (append-nil c.steps)
   turns q (Some t) = refl
+
   by : (o : Option Progress) → (after_turn c u (option_and_then (turn c.state) o)).steps
       ≡ c.steps ++ map (λ (t : Transition). t.step) (option_to_list (option_and_then (λ p. option_map (transition_of c.state u p) (turn c.state p)) o))
   by None = sym (append-nil c.steps)
@@ -101,6 +102,7 @@ if_line s v k P h = by (slice_get s.sections v) refl where
   lines : (x : Section) → slice_get s.sections v ≡ Some x → (o : Option Line) → slice_get x.lines k ≡ o → IfSome o (λ line. P x.actor line)
   lines x here None none = tt
   lines x here (Some line) there = h x line here there
+
   by : (o : Option Section) → slice_get s.sections v ≡ o → IfSome o (λ x. IfSome (slice_get x.lines k) (λ line. P x.actor line))
   by None none = tt
   by (Some x) here = lines x here (slice_get x.lines k) refl
@@ -112,5 +114,5 @@ all_replies_have_causes s schedule =
       rules = λ v k. if_line s v k _ (λ x line here there. line-plays s schedule v k x line here there);
       last = λ v k. if_line s v k _ (λ x line here there. reply_is_last x.actor (program x.actor line) (steps_of_line s schedule v k) (line-plays s schedule v k x line here there));
       causes = λ v k r replies. if_line s v k _ (λ x line here there. λ may.
-        line_has_cause x.actor line (steps_of_line s schedule v k) r may (record { plays = line-plays s schedule v k x line here there; replies = replies }));
+          line_has_cause x.actor line (steps_of_line s schedule v k) r may (record { plays = line-plays s schedule v k x line here there; replies = replies }));
     }

@@ -53,13 +53,14 @@ data SweepIs (on : Bool) (ring : Option (RingKey × Ring)) (o : Outcome) : Type 
 
 sweep_at : (d generation serial : ℕ) (s : State) (o : Option Domain)
     → SweepIs (unwrap_or (option_map (λ (x : Domain). x.on) o) false) (option_and_then (λ (live : Live). next_ring serial live.rings) (option_and_then (λ (x : Domain). x.life) o))
-      (act_if_there s d generation o (Sweep serial)).outcome
+    (act_if_there s d generation o (Sweep serial)).outcome
 sweep_at d generation serial s None = Vanishes refl
 sweep_at d generation serial s (Some x) = by (x.generation == generation) x.life where
   ring : (live : Live) (on : Bool) (e : Option (RingKey × Ring)) → SweepIs on e (change_in s d (refuse_if (not on) NoDev (sweep_found live e))).outcome
   ring live false e = Off refl refl
   ring live true None = Finishes refl refl refl
   ring live true (Some e) = Finds e refl refl refl
+
   by : (b : Bool) (life : Option Live) → SweepIs x.on (option_and_then (λ (live : Live). next_ring serial live.rings) life) (act_if_live s d x (cond b life None) (Sweep serial)).outcome
   by false life = Vanishes refl
   by true None = Vanishes refl
@@ -73,34 +74,41 @@ sweeps-over c generation zero serial k ts r later h = later ts h
 sweeps-over c generation (suc n) serial k [] r later h = absurd (let no : ⊥ = cc in no)
 sweeps-over c generation (suc n) serial k (t ∷ ts) r later h =
     by (let P : Outcome → Type 0 = λ o. SweepIs (is_on t.before d) (ring_after t.before d serial) o in
-      subst P (sym does.outcome) (sweep_at d generation serial t.before (domain_of t.before d)))
+    subst P (sym does.outcome) (sweep_at d generation serial t.before (domain_of t.before d)))
     (λ next rest. sweeps-over c generation n next k ts r later rest) where
-  d : ℕ
-  d = c.caller
-  actor : Actor
-  actor = Vcpu d generation
-  does : Performs actor (Sweep serial) t
-  does = performs actor (Sweep serial) (sweep_rings (suc n) serial k) t refl h.0
-  reader : Outcome → Rests
-  reader = if_swept (λ next os. sweep_rings n next k os) k
-  rest : (o : Outcome) → t.step.outcome ≡ o → Ends actor (λ os. unless_gone o reader os) ts r
-  rest o is = let P : Outcome → Type 0 = λ x. Ends actor (λ os. unless_gone x reader os) ts r in subst P is h.1
-  cause : Bool → Option (RingKey × Ring) → Reply
-  cause on ring = cause_after_sweeps c (cond (not on) None (swept ring (λ next. after_sweeps d n next (befores ts)) (befores ts)))
-  cause_is : (on : Bool) (ring : Option (RingKey × Ring)) → is_on t.before d ≡ on → ring_after t.before d serial ≡ ring
-      → cause (is_on t.before d) (ring_after t.before d serial) ≡ cause on ring
-  cause_is on ring is there = ap (λ b. cause b (ring_after t.before d serial)) is ∙ ap (cause on) there
-  by : SweepIs (is_on t.before d) (ring_after t.before d serial) t.step.outcome
-      → ((next : ℕ) → Ends actor (λ os. sweep_rings n next k os) ts r → Over (cause_after_sweeps c (after_sweeps d n next (befores ts))) ts r)
-      → Over (cause (is_on t.before d) (ring_after t.before d serial)) (t ∷ ts) r
-  by (Vanishes is) more = let end = said actor gone ts r (rest Gone is) in Lost (ap (λ o. is_gone o || any_gone ts) is) end.1
-  by (Off off is) more =
-      let end = said actor (says NoDev) ts r (rest (Refused NoDev) is) in
-      Replied (ap (λ o. is_gone o || any_gone ts) is ∙ ap any_gone end.0) (cause_is false (ring_after t.before d serial) off refl ∙ end.1)
-  by (Finds e on there is) more =
-      over-next (cause_after_sweeps c (after_sweeps d n e.1.serial (befores ts))) _ t ts r (ap is_gone is) (cause_is true (Some e) on there) (more e.1.serial (rest (Swept e.1.serial) is))
-  by (Finishes on there is) more =
-      over-next (cause_of_questions c (befores ts)) _ t ts r (ap is_gone is) (cause_is true None on there) (later ts (rest NoMore is))
+      d : ℕ
+      d = c.caller
+
+      actor : Actor
+      actor = Vcpu d generation
+
+      does : Performs actor (Sweep serial) t
+      does = performs actor (Sweep serial) (sweep_rings (suc n) serial k) t refl h.0
+
+      reader : Outcome → Rests
+      reader = if_swept (λ next os. sweep_rings n next k os) k
+
+      rest : (o : Outcome) → t.step.outcome ≡ o → Ends actor (λ os. unless_gone o reader os) ts r
+      rest o is = let P : Outcome → Type 0 = λ x. Ends actor (λ os. unless_gone x reader os) ts r in subst P is h.1
+
+      cause : Bool → Option (RingKey × Ring) → Reply
+      cause on ring = cause_after_sweeps c (cond (not on) None (swept ring (λ next. after_sweeps d n next (befores ts)) (befores ts)))
+
+      cause_is : (on : Bool) (ring : Option (RingKey × Ring)) → is_on t.before d ≡ on → ring_after t.before d serial ≡ ring
+          → cause (is_on t.before d) (ring_after t.before d serial) ≡ cause on ring
+      cause_is on ring is there = ap (λ b. cause b (ring_after t.before d serial)) is ∙ ap (cause on) there
+
+      by : SweepIs (is_on t.before d) (ring_after t.before d serial) t.step.outcome
+          → ((next : ℕ) → Ends actor (λ os. sweep_rings n next k os) ts r → Over (cause_after_sweeps c (after_sweeps d n next (befores ts))) ts r)
+          → Over (cause (is_on t.before d) (ring_after t.before d serial)) (t ∷ ts) r
+      by (Vanishes is) more = let end = said actor gone ts r (rest Gone is) in Lost (ap (λ o. is_gone o || any_gone ts) is) end.1
+      by (Off off is) more =
+          let end = said actor (says NoDev) ts r (rest (Refused NoDev) is) in
+          Replied (ap (λ o. is_gone o || any_gone ts) is ∙ ap any_gone end.0) (cause_is false (ring_after t.before d serial) off refl ∙ end.1)
+      by (Finds e on there is) more =
+          over-next (cause_after_sweeps c (after_sweeps d n e.1.serial (befores ts))) _ t ts r (ap is_gone is) (cause_is true (Some e) on there) (more e.1.serial (rest (Swept e.1.serial) is))
+      by (Finishes on there is) more =
+          over-next (cause_of_questions c (befores ts)) _ t ts r (ap is_gone is) (cause_is true None on there) (later ts (rest NoMore is))
 
 -- what a question comes to
 data QueryIs (on : Bool) (o : Outcome) : Type 0 where
@@ -116,18 +124,23 @@ query_at d generation to port need s (Some x) = by (x.generation == generation) 
   ring : (live : Live) (e : Option (RingKey × Ring)) → (a : Answer) × ((query_match live d need e).outcome ≡ Answered a)
   ring live None = (_, refl)
   ring live (Some e) = (_, refl)
+
   life_of : (l : Option Live) → (a : Answer) × ((query_life d port need l).outcome ≡ Answered a)
   life_of None = (_, refl)
   life_of (Some live) = ring live (match_of live.rings port d)
+
   on_or_off : (y : Domain) (b : Bool) → (a : Answer) × ((cond b (query_life d port need y.life) (query_domain d port need None)).outcome ≡ Answered a)
   on_or_off y true = life_of y.life
   on_or_off y false = (_, refl)
+
   answer : (y : Option Domain) → (a : Answer) × ((query_domain d port need y).outcome ≡ Answered a)
   answer None = (_, refl)
   answer (Some y) = on_or_off y y.on
+
   asks : (on : Bool) → QueryIs on (change_in s to (refuse_if (not on) NoDev (query_domain d port need (domain_of s to)))).outcome
   asks false = Denied refl refl
   asks true = let told = answer (domain_of s to) in Told told.0 refl told.1
+
   by : (b : Bool) (life : Option Live) → QueryIs x.on (act_if_live s d x (cond b life None) (Query to port need)).outcome
   by false life = Unheard refl
   by true None = Unheard refl
@@ -147,43 +160,56 @@ question-over : (d generation at : ℕ) (entry : List ℕ) (q : Reply) (more : R
 question-over d generation at entry q more ts r later h = first (drop n ts) refl h where
   actor : Actor
   actor = Vcpu d generation
+
   action : Action
   action = Query (u16_at entry 4) (u32_at entry 0) (u32_at entry 12)
+
   n : ℕ
   n = entry_steps at
+
   ps : List Piece
   ps = pieces (at + 8) 12
+
   state : State
   state = (entry_looked d at (befores ts)).state
+
   answer : Option (List ℕ)
   answer = (entry_looked d at (befores ts)).answer
+
   rows : Bool → Reply
   rows on = row (not on) NoDev (row (is_none answer) efault q)
+
   asks : (t : Transition) (xs : List Transition) → drop n ts ≡ t ∷ xs → Ends actor (λ os. ask action (if_answered at more) os) (t ∷ xs) r → Over (rows (is_on state d)) (t ∷ xs) r
   asks t xs split h =
       by (let P : Outcome → Type 0 = λ o. QueryIs (is_on t.before d) o in
-        subst P (sym does.outcome) (query_at d generation (u16_at entry 4) (u32_at entry 0) (u32_at entry 12) t.before (domain_of t.before d))) where
-    does : Performs actor action t
-    does = performs actor action (λ os. ask action (if_answered at more) os) t refl h.0
-    rest : (o : Outcome) → t.step.outcome ≡ o → Ends actor (λ os. unless_gone o (if_answered at more) os) xs r
-    rest o is = let P : Outcome → Type 0 = λ x. Ends actor (λ os. unless_gone x (if_answered at more) os) xs r in subst P is h.1
-    at_state : state ≡ t.before
-    at_state = ap (λ o. unwrap_or o []) (get-drop n (befores ts) (befores xs) t.before (drop-map (λ (t : Transition). t.before) n ts ∙ ap befores split))
-    follows : drop (question_steps at) ts ≡ xs
-    follows = sym (drop-drop 1 n ts) ∙ ap (drop 1) split
-    rows_are : (on : Bool) → is_on t.before d ≡ on → rows (is_on state d) ≡ rows on
-    rows_are on is = ap (λ s. rows (is_on s d)) at_state ∙ ap rows is
-    by : QueryIs (is_on t.before d) t.step.outcome → Over (rows (is_on state d)) (t ∷ xs) r
-    by (Unheard is) = let end = said actor gone xs r (rest Gone is) in Lost (ap (λ o. is_gone o || any_gone xs) is) end.1
-    by (Denied off is) =
-        let end = said actor (says NoDev) xs r (rest (Refused NoDev) is) in
-        Replied (ap (λ o. is_gone o || any_gone xs) is ∙ ap any_gone end.0) (rows_are false off ∙ end.1)
-    by (Told a on is) =
-        let P : List State → Type 0 = λ states. Over (row (is_none (found d ps states)) efault q) xs r in
-        let Q : List Transition → Type 0 = λ xs. Ends actor more (drop (length ps) xs) r → Over q (drop (length ps) xs) r in
-        over-next (row (is_none answer) efault q) _ t xs r (ap is_gone is) (rows_are true on) (
-        subst P (ap befores (sym follows) ∙ sym (drop-map (λ (t : Transition). t.before) (question_steps at) ts)) (
-        puts-over d generation ps (answer_bytes a.flags 0 a.need a.most) (says efault) q more xs r (rest (Answered a) is) (subst Q follows later)))
+      subst P (sym does.outcome) (query_at d generation (u16_at entry 4) (u32_at entry 0) (u32_at entry 12) t.before (domain_of t.before d))) where
+        does : Performs actor action t
+        does = performs actor action (λ os. ask action (if_answered at more) os) t refl h.0
+
+        rest : (o : Outcome) → t.step.outcome ≡ o → Ends actor (λ os. unless_gone o (if_answered at more) os) xs r
+        rest o is = let P : Outcome → Type 0 = λ x. Ends actor (λ os. unless_gone x (if_answered at more) os) xs r in subst P is h.1
+
+        at_state : state ≡ t.before
+        at_state = ap (λ o. unwrap_or o []) (get-drop n (befores ts) (befores xs) t.before (drop-map (λ (t : Transition). t.before) n ts ∙ ap befores split))
+
+        follows : drop (question_steps at) ts ≡ xs
+        follows = sym (drop-drop 1 n ts) ∙ ap (drop 1) split
+
+        rows_are : (on : Bool) → is_on t.before d ≡ on → rows (is_on state d) ≡ rows on
+        rows_are on is = ap (λ s. rows (is_on s d)) at_state ∙ ap rows is
+
+        by : QueryIs (is_on t.before d) t.step.outcome → Over (rows (is_on state d)) (t ∷ xs) r
+        by (Unheard is) = let end = said actor gone xs r (rest Gone is) in Lost (ap (λ o. is_gone o || any_gone xs) is) end.1
+        by (Denied off is) =
+            let end = said actor (says NoDev) xs r (rest (Refused NoDev) is) in
+            Replied (ap (λ o. is_gone o || any_gone xs) is ∙ ap any_gone end.0) (rows_are false off ∙ end.1)
+        by (Told a on is) =
+            let P : List State → Type 0 = λ states. Over (row (is_none (found d ps states)) efault q) xs r in
+            let Q : List Transition → Type 0 = λ xs. Ends actor more (drop (length ps) xs) r → Over q (drop (length ps) xs) r in
+            over-next (row (is_none answer) efault q) _ t xs r (ap is_gone is) (rows_are true on) (
+            subst P (ap befores (sym follows) ∙ sym (drop-map (λ (t : Transition). t.before) (question_steps at) ts)) (
+            puts-over d generation ps (answer_bytes a.flags 0 a.need a.most) (says efault) q more xs r (rest (Answered a) is) (subst Q follows later)))
+
   first : (xs : List Transition) → drop n ts ≡ xs → Ends actor (λ os. ask action (if_answered at more) os) xs r → Over (rows (is_on state d)) xs r
   first [] split h = absurd (let no : ⊥ = cc in no)
   first (t ∷ xs) split h = asks t xs split h
@@ -198,10 +224,10 @@ entries-over d generation (at ∷ ats) ts r h =
     question-over d generation at entry (cause_of_entries d ats (drop (question_steps at + length (pieces (at + 8) 12)) (befores ts))) (λ os. answer_entries ats os) ts r
     (λ h.
     over-same _ _ _ r (ap (cause_of_entries d ats) (ap befores (drop-drop (length (pieces (at + 8) 12)) (question_steps at) ts)
-      ∙ sym (drop-map (λ (t : Transition). t.before) (question_steps at + length (pieces (at + 8) 12)) ts)))
+    ∙ sym (drop-map (λ (t : Transition). t.before) (question_steps at + length (pieces (at + 8) 12)) ts)))
     (entries-over d generation ats (drop (length (pieces (at + 8) 12)) (drop (question_steps at) ts)) r h)) h)) where
-  entry : List ℕ
-  entry = unwrap_or (found d (pieces at 20) (befores ts)) []
+      entry : List ℕ
+      entry = unwrap_or (found d (pieces at 20) (befores ts)) []
 
 -- the questions, where there are any
 questions-over : (c : Call) (generation : ℕ) (ts : List Transition) (r : Reply) → Ends (Vcpu c.caller generation) (λ os. notify_entries c.a1 os) ts r
@@ -209,12 +235,16 @@ questions-over : (c : Call) (generation : ℕ) (ts : List Transition) (r : Reply
 questions-over c generation ts r h = by c.a1 refl h where
   actor : Actor
   actor = Vcpu c.caller generation
+
   n : ℕ
   n = length (pieces c.a1 8)
+
   head : List ℕ
   head = unwrap_or (found c.caller (pieces c.a1 8) (befores ts)) []
+
   choice : Bool → Reply
   choice b = cond b zero_reply (cause_of_head c (found c.caller (pieces c.a1 8) (befores ts)) (befores ts))
+
   heads : Ends actor (λ os. read c.a1 8 (notify_head c.a1) os) ts r → Over (cause_of_head c (found c.caller (pieces c.a1 8) (befores ts)) (befores ts)) ts r
   heads h =
       read-over c.caller generation c.a1 8 _ (notify_head c.a1) ts r h (λ h.
@@ -222,6 +252,7 @@ questions-over c generation ts r h = by c.a1 refl h where
       refuses-over actor (nat_lt most_entries (u32_at head 0)) Acces _ _ (drop n ts) r h (λ h.
       over-same _ _ (drop n ts) r (ap (cause_of_entries c.caller (entries_at c.a1 (u32_at head 0))) (sym (drop-map (λ (t : Transition). t.before) n ts)))
       (entries-over c.caller generation (entries_at c.a1 (u32_at head 0)) (drop n ts) r h))))
+
   by : (a1 : ℕ) → c.a1 ≡ a1 → Ends actor (λ os. notify_entries a1 os) ts r → Over (choice (c.a1 == 0)) ts r
   by zero is h = let none : (c.a1 == 0) ≡ true = same-eqb c.a1 0 is in over-same zero_reply _ ts r (sym (ap choice none)) (says-over actor zero_reply ts r h)
   by (suc a) is h =

@@ -57,7 +57,7 @@ live_is s d x live here is = ap (λ o. option_and_then (λ (x : Domain). x.life)
 
 register-answers : (c : Call) (generation : ℕ) (head list : Option (List ℕ)) (s : State)
     → Answers say_done (act (Vcpu c.caller generation) (Register (u32_at (unwrap_or head []) 0) (u16_at (unwrap_or head []) 4) (u32_at (unwrap_or head []) 8) (numbers_at (unwrap_or list []) c.a3) (c.a4 == 1)) s).outcome
-      (registered c (record { head = head; list = list; state = s }) (is_on s c.caller) (live_of s c.caller))
+    (registered c (record { head = head; list = list; state = s }) (is_on s c.caller) (live_of s c.caller))
 register-answers c generation head list s =
     at_life s c.caller generation _ say_done _ (λ x live here is.
     let l : Looked = record { head = head; list = list; state = s } in
@@ -80,27 +80,33 @@ register-over c generation ts r h =
     refuses-over actor (not (is_register_head c.a3 (unwrap_or head []))) Inval _ (λ os. read c.a2 (8 * c.a3) (register_pages c.a3 c.a4 (unwrap_or head [])) os) (drop n ts) r h (λ h.
     later_states c.caller c.a2 (8 * c.a3) n ts listed r (
     read-over c.caller generation c.a2 (8 * c.a3) _ (register_pages c.a3 c.a4 (unwrap_or head [])) (drop n ts) r h (acts (found c.caller (pieces c.a2 (8 * c.a3)) (befores (drop n ts)))))))) where
-  actor : Actor
-  actor = Vcpu c.caller generation
-  n : ℕ
-  n = length (pieces c.a1 12)
-  m : ℕ
-  m = length (pieces c.a2 (8 * c.a3))
-  head : Option (List ℕ)
-  head = found c.caller (pieces c.a1 12) (befores ts)
-  act_rows : Option (List ℕ) → State → Reply
-  act_rows list s = registered c (record { head = head; list = list; state = s }) (is_on s c.caller) (live_of s c.caller)
-  listed : Option (List ℕ) → Reply
-  listed list = row (is_none list) efault (act_rows list (last_state (befores ts)))
-  acts : (list : Option (List ℕ)) → Ends actor (λ os. register_pages c.a3 c.a4 (unwrap_or head []) (unwrap_or list []) os) (drop m (drop n ts)) r
-      → Over (act_rows list (last_state (befores ts))) (drop m (drop n ts)) r
-  acts list h =
-      let P : List Transition → Type 0 = λ xs. Ends actor (λ os. register_pages c.a3 c.a4 (unwrap_or head []) (unwrap_or list []) os) xs r in
-      let Q : List Transition → Type 0 = λ xs. Over (act_rows list (last_state (befores ts))) xs r in
-      let same = drop-drop m n ts in
-      subst Q (sym same) (
-      act-over actor (Register (u32_at (unwrap_or head []) 0) (u16_at (unwrap_or head []) 4) (u32_at (unwrap_or head []) 8) (numbers_at (unwrap_or list []) c.a3) (c.a4 == 1)) say_done
-      (act_rows list) (n + m) ts r (λ o xs end. done_closes actor o xs r end) (register-answers c generation head list) (subst P same h))
+      actor : Actor
+      actor = Vcpu c.caller generation
+
+      n : ℕ
+      n = length (pieces c.a1 12)
+
+      m : ℕ
+      m = length (pieces c.a2 (8 * c.a3))
+
+      head : Option (List ℕ)
+      head = found c.caller (pieces c.a1 12) (befores ts)
+
+      act_rows : Option (List ℕ) → State → Reply
+      act_rows list s = registered c (record { head = head; list = list; state = s }) (is_on s c.caller) (live_of s c.caller)
+
+      listed : Option (List ℕ) → Reply
+      listed list = row (is_none list) efault (act_rows list (last_state (befores ts)))
+
+      acts : (list : Option (List ℕ)) → Ends actor (λ os. register_pages c.a3 c.a4 (unwrap_or head []) (unwrap_or list []) os) (drop m (drop n ts)) r
+          → Over (act_rows list (last_state (befores ts))) (drop m (drop n ts)) r
+      acts list h =
+          let P : List Transition → Type 0 = λ xs. Ends actor (λ os. register_pages c.a3 c.a4 (unwrap_or head []) (unwrap_or list []) os) xs r in
+          let Q : List Transition → Type 0 = λ xs. Over (act_rows list (last_state (befores ts))) xs r in
+          let same = drop-drop m n ts in
+          subst Q (sym same) (
+          act-over actor (Register (u32_at (unwrap_or head []) 0) (u16_at (unwrap_or head []) 4) (u32_at (unwrap_or head []) 8) (numbers_at (unwrap_or list []) c.a3) (c.a4 == 1)) say_done
+          (act_rows list) (n + m) ts r (λ o xs end. done_closes actor o xs r end) (register-answers c generation head list) (subst P same h))
 
 pub registers_have_causes : RegistersHaveCauses
 registers_have_causes d generation a1 a2 a3 a4 ts r h =
@@ -116,7 +122,7 @@ unregistered c l on life =
 
 unregister-answers : (c : Call) (generation : ℕ) (head : Option (List ℕ)) (s : State)
     → Answers say_done (act (Vcpu c.caller generation) (Unregister (u32_at (unwrap_or head []) 0) (u16_at (unwrap_or head []) 4)) s).outcome
-      (unregistered c (record { head = head; list = None; state = s }) (is_on s c.caller) (live_of s c.caller))
+    (unregistered c (record { head = head; list = None; state = s }) (is_on s c.caller) (live_of s c.caller))
 unregister-answers c generation head s =
     at_life s c.caller generation _ say_done _ (λ x live here is.
     let l : Looked = record { head = head; list = None; state = s } in
@@ -132,14 +138,17 @@ unregister-over c generation ts r h =
     read-over c.caller generation c.a1 8 _ unregister_head ts r h (λ h.
     refuses-over actor (not (u16_at (unwrap_or head []) 6 == 0)) Inval _ (λ os. ask (Unregister (u32_at (unwrap_or head []) 0) (u16_at (unwrap_or head []) 4)) say_done os) (drop n ts) r h (λ h.
     act-over actor (Unregister (u32_at (unwrap_or head []) 0) (u16_at (unwrap_or head []) 4)) say_done act_rows n ts r (λ o xs end. done_closes actor o xs r end) (unregister-answers c generation head) h))) where
-  actor : Actor
-  actor = Vcpu c.caller generation
-  n : ℕ
-  n = length (pieces c.a1 8)
-  head : Option (List ℕ)
-  head = found c.caller (pieces c.a1 8) (befores ts)
-  act_rows : State → Reply
-  act_rows s = unregistered c (record { head = head; list = None; state = s }) (is_on s c.caller) (live_of s c.caller)
+      actor : Actor
+      actor = Vcpu c.caller generation
+
+      n : ℕ
+      n = length (pieces c.a1 8)
+
+      head : Option (List ℕ)
+      head = found c.caller (pieces c.a1 8) (befores ts)
+
+      act_rows : State → Reply
+      act_rows s = unregistered c (record { head = head; list = None; state = s }) (is_on s c.caller) (live_of s c.caller)
 
 pub unregisters_have_causes : UnregistersHaveCauses
 unregisters_have_causes d generation a1 a2 a3 a4 ts r h =

@@ -34,14 +34,16 @@ get-others (z ∷ zs) (suc u) (suc v) y h = get-others zs u v y (λ same. h (ap 
 -- the steps of two programs that do the same are the same
 pub plays-same : (actor : Actor) (k l : Rests) (ts : List Transition) → ((os : List Outcome) → k os ≡ l os) → Plays actor k ts → Plays actor l ts
 plays-same actor k l [] same h = tt
-plays-same actor k l (t ∷ ts) same h =
-    (record {
-      by_actor = h.0.by_actor;
-      next = sym (same []) ∙ h.0.next;
-      outcome = h.0.outcome;
-      after = h.0.after;
-      reply = h.0.reply ∙ ap reply_in (same (t.step.outcome ∷ []));
-    }, plays-same actor (λ os. k (t.step.outcome ∷ os)) (λ os. l (t.step.outcome ∷ os)) ts (λ os. same (t.step.outcome ∷ os)) h.1)
+plays-same actor k l (t ∷ ts) same h = (
+  record {
+    by_actor = h.0.by_actor;
+    next = sym (same []) ∙ h.0.next;
+    outcome = h.0.outcome;
+    after = h.0.after;
+    reply = h.0.reply ∙ ap reply_in (same (t.step.outcome ∷ []));
+  },
+  plays-same actor (λ os. k (t.step.outcome ∷ os)) (λ os. l (t.step.outcome ∷ os)) ts (λ os. same (t.step.outcome ∷ os)) h.1,
+)
 
 -- the transitions of a line from a course on
 abbrev pub from : Course → List ℕ → ℕ → ℕ → List Transition
@@ -91,6 +93,7 @@ ahead-other : (c : Course) (u v : ℕ) (us : List ℕ) (p : Progress) → u ≢ 
 ahead-other c u v us p other here rest = by (slice_get c.sections u) refl where
   different : (u == v) ≡ false
   different = grind (arith, nat_tests)
+
   turns : (q : Progress) → slice_get c.sections u ≡ Some q → (t : Option Turn) → turn c.state q ≡ t → IsAhead c (u ∷ us) v p
   turns q there None none =
       ahead-same c c (u ∷ us) us v p (λ k. from-idle c u v k us
@@ -102,6 +105,7 @@ ahead-other c u v us p other here rest = by (slice_get c.sections u) refl where
       (ap (λ o. after_turn c u (option_and_then (turn c.state) o)) there ∙ ap (after_turn c u) some)
       ∙ ap (λ b. cond b (transition_of c.state u q t ∷ from (turned c u t) us v k) (from (turned c u t) us v k)) (not_both (u == v) (t.line == k) different))
       (rest (turned c u t) (get-others c.sections u v t.progress other ∙ here))
+
   by : (o : Option Progress) → slice_get c.sections u ≡ o → IsAhead c (u ∷ us) v p
   by None there =
       ahead-same c c (u ∷ us) us v p (λ k. from-idle c u v k us
@@ -129,14 +133,14 @@ is_turn c v us p t here some line =
     let course : step c v ≡ turned c v t = ap (λ o. after_turn c v (option_and_then (turn c.state) o)) here ∙ ap (after_turn c v) some in
     record {
       of_line = from-turned c v v (p.done + 1) us d t transition course
-        ∙ ap (λ b. cond b (d ∷ from (turned c v t) us v (p.done + 1)) (from (turned c v t) us v (p.done + 1))) (both_hold (v == v) (t.line == p.done + 1) (same-eqb v v refl) (same-eqb t.line (p.done + 1) line));
+          ∙ ap (λ b. cond b (d ∷ from (turned c v t) us v (p.done + 1)) (from (turned c v t) us v (p.done + 1))) (both_hold (v == v) (t.line == p.done + 1) (same-eqb v v refl) (same-eqb t.line (p.done + 1) line));
       of_others = λ k other. from-turned c v v k us d t transition course
-        ∙ ap (λ b. cond b (d ∷ from (turned c v t) us v k) (from (turned c v t) us v k))
-        (let differs : (t.line == k) ≡ false = (let e = line in grind (arith, nat_tests)) in ap (λ b. (v == v) && b) differs ∙ not_last (v == v));
+          ∙ ap (λ b. cond b (d ∷ from (turned c v t) us v k) (from (turned c v t) us v k))
+          (let differs : (t.line == k) ≡ false = (let e = line in grind (arith, nat_tests)) in ap (λ b. (v == v) && b) differs ∙ not_last (v == v));
     } where
-  not_last : (b : Bool) → (b && false) ≡ false
-  not_last true = refl
-  not_last false = refl
+      not_last : (b : Bool) → (b && false) ≡ false
+      not_last true = refl
+      not_last false = refl
 
 -- a line that is not the first has had no outcomes
 pub still-fresh : (p : Progress) (i : ℕ) (line : Line) (os : List Outcome) → p.outcomes ≡ [] → still p i line os ≡ program p.actor line os
@@ -150,9 +154,11 @@ ahead-turn : (c : Course) (v : ℕ) (us : List ℕ) (p : Progress) (line : Line)
 ahead-turn c v us p line rest a here lines next later = by (program p.actor line (p.outcomes ++ e.outcome ∷ [])) refl where
   e : Effect
   e = act p.actor a c.state
+
   turns : (n : Next) → program p.actor line (p.outcomes ++ e.outcome ∷ []) ≡ n → turn c.state p ≡ Some (turn_to p rest a e n)
   turns n same =
       ap (turn_at c.state p) lines ∙ ap (turn_by c.state p line rest) next ∙ ap (λ n. Some (turn_to p rest a e n)) same
+
   step_is : (n : Next) → program p.actor line (p.outcomes ++ e.outcome ∷ []) ≡ n → (t : Turn) → t ≡ turn_to p rest a e n
       → t.action ≡ a → t.outcome ≡ e.outcome → t.state ≡ e.state → t.reply ≡ reply_in n → IsStepOf p.actor (still p zero line) (transition_of c.state v p t)
   step_is n same t is action outcome after reply =
@@ -163,12 +169,16 @@ ahead-turn c v us p line rest a here lines next later = by (program p.actor line
         after = after ∙ ap (λ a. (act p.actor a c.state).state) (sym action);
         reply = reply ∙ ap reply_in (sym same) ∙ ap (λ o. reply_in (program p.actor line (p.outcomes ++ o ∷ []))) (sym outcome);
       }
+
   first_is : (l : Line) → slice_get p.left 0 ≡ Some l → line ≡ l
   first_is l there = let at = ap (λ xs. slice_get xs 0) lines in let same : line ≡ l = cc in same
+
   others : (i : ℕ) (l : Line) → slice_get p.left (suc i) ≡ Some l → slice_get rest i ≡ Some l
   others i l there = sym (ap (λ xs. slice_get xs (suc i)) lines) ∙ there
+
   first_place : p.done + 1 + 0 ≡ p.done + 1
   first_place = omega arith
+
   goes : (b : Action) → program p.actor line (p.outcomes ++ e.outcome ∷ []) ≡ Do b → IsAhead c (v ∷ us) v p
   goes b same =
       let t = turn_to p rest a e (Do b) in
@@ -176,22 +186,24 @@ ahead-turn c v us p line rest a here lines next later = by (program p.actor line
       let rest_is = later (turned c v t) t.progress (get-written c.sections v p t.progress here) in
       let first : Plays p.actor (still p zero line) (from c (v ∷ us) v (p.done + 1 + 0)) =
       (let P : List Transition → Type 0 = λ ts. Plays p.actor (still p zero line) ts in
-      subst P (sym (ap (from c (v ∷ us) v) first_place ∙ is.of_line)) (
-      (step_is (Do b) same t refl refl refl refl refl,
-      plays-same p.actor (still t.progress zero line) (λ os. still p zero line (e.outcome ∷ os)) (from (turned c v t) us v (p.done + 1))
-      (λ os. ap (program p.actor line) (append_assoc p.outcomes (e.outcome ∷ []) os))
-      (let Q : ℕ → Type 0 = λ k. Plays p.actor (still t.progress zero line) (from (turned c v t) us v k) in
-      subst Q first_place (rest_is.left 0 line (ap (λ xs. slice_get xs 0) lines)))))) in
+      subst P (sym (ap (from c (v ∷ us) v) first_place ∙ is.of_line)) ((
+        step_is (Do b) same t refl refl refl refl refl,
+        plays-same p.actor (still t.progress zero line) (λ os. still p zero line (e.outcome ∷ os)) (from (turned c v t) us v (p.done + 1))
+            (λ os. ap (program p.actor line) (append_assoc p.outcomes (e.outcome ∷ []) os))
+            (let Q : ℕ → Type 0 = λ k. Plays p.actor (still t.progress zero line) (from (turned c v t) us v k) in
+            subst Q first_place (rest_is.left 0 line (ap (λ xs. slice_get xs 0) lines))),
+      ))) in
       record {
         done = λ k few. is.of_others k (λ same. omega arith) ∙ rest_is.done k few;
         left = lefts t is rest_is first;
       } where
-    lefts : (t : Turn) → IsTurn c v us p t → IsAhead (turned c v t) us v (record p { outcomes = p.outcomes ++ e.outcome ∷ [] }) → Plays p.actor (still p zero line) (from c (v ∷ us) v (p.done + 1 + 0))
-        → (i : ℕ) (l : Line) → slice_get p.left i ≡ Some l → Plays p.actor (still p i l) (from c (v ∷ us) v (p.done + 1 + i))
-    lefts t is rest_is first zero l there = let P : Line → Type 0 = λ l. Plays p.actor (still p zero l) (from c (v ∷ us) v (p.done + 1 + 0)) in subst P (first_is l there) first
-    lefts t is rest_is first (suc i) l there =
-        let P : List Transition → Type 0 = λ ts. Plays p.actor (still p (suc i) l) ts in
-        subst P (sym (is.of_others (p.done + 1 + suc i) (λ same. omega arith))) (rest_is.left (suc i) l there)
+        lefts : (t : Turn) → IsTurn c v us p t → IsAhead (turned c v t) us v (record p { outcomes = p.outcomes ++ e.outcome ∷ [] }) → Plays p.actor (still p zero line) (from c (v ∷ us) v (p.done + 1 + 0))
+            → (i : ℕ) (l : Line) → slice_get p.left i ≡ Some l → Plays p.actor (still p i l) (from c (v ∷ us) v (p.done + 1 + i))
+        lefts t is rest_is first zero l there = let P : Line → Type 0 = λ l. Plays p.actor (still p zero l) (from c (v ∷ us) v (p.done + 1 + 0)) in subst P (first_is l there) first
+        lefts t is rest_is first (suc i) l there =
+            let P : List Transition → Type 0 = λ ts. Plays p.actor (still p (suc i) l) ts in
+            subst P (sym (is.of_others (p.done + 1 + suc i) (λ same. omega arith))) (rest_is.left (suc i) l there)
+
   ends_line : (r : Reply) → program p.actor line (p.outcomes ++ e.outcome ∷ []) ≡ Say r → IsAhead c (v ∷ us) v p
   ends_line r same =
       let t = turn_to p rest a e (Say r) in
@@ -205,15 +217,16 @@ ahead-turn c v us p line rest a here lines next later = by (program p.actor line
         done = λ k few. is.of_others k (λ same. omega arith) ∙ rest_is.done k (omega arith);
         left = lefts t is rest_is first;
       } where
-    lefts : (t : Turn) → IsTurn c v us p t → IsAhead (turned c v t) us v (record p { done = p.done + 1; left = rest; outcomes = [] }) → Plays p.actor (still p zero line) (from c (v ∷ us) v (p.done + 1 + 0))
-        → (i : ℕ) (l : Line) → slice_get p.left i ≡ Some l → Plays p.actor (still p i l) (from c (v ∷ us) v (p.done + 1 + i))
-    lefts t is rest_is first zero l there = let P : Line → Type 0 = λ l. Plays p.actor (still p zero l) (from c (v ∷ us) v (p.done + 1 + 0)) in subst P (first_is l there) first
-    lefts t is rest_is first (suc i) l there =
-        let P : List Transition → Type 0 = λ ts. Plays p.actor (still p (suc i) l) ts in
-        let place : p.done + 1 + 1 + i ≡ p.done + 1 + suc i = omega arith in
-        let q : Progress = record p { done = p.done + 1; left = rest; outcomes = [] } in
-        subst P (ap (from (turned c v t) us v) place ∙ sym (is.of_others (p.done + 1 + suc i) (λ same. omega arith)))
-        (plays-same p.actor (still q i l) (still p (suc i) l) (from (turned c v t) us v (p.done + 1 + 1 + i)) (λ os. still-fresh q i l os refl) (rest_is.left i l (others i l there)))
+        lefts : (t : Turn) → IsTurn c v us p t → IsAhead (turned c v t) us v (record p { done = p.done + 1; left = rest; outcomes = [] }) → Plays p.actor (still p zero line) (from c (v ∷ us) v (p.done + 1 + 0))
+            → (i : ℕ) (l : Line) → slice_get p.left i ≡ Some l → Plays p.actor (still p i l) (from c (v ∷ us) v (p.done + 1 + i))
+        lefts t is rest_is first zero l there = let P : Line → Type 0 = λ l. Plays p.actor (still p zero l) (from c (v ∷ us) v (p.done + 1 + 0)) in subst P (first_is l there) first
+        lefts t is rest_is first (suc i) l there =
+            let P : List Transition → Type 0 = λ ts. Plays p.actor (still p (suc i) l) ts in
+            let place : p.done + 1 + 1 + i ≡ p.done + 1 + suc i = omega arith in
+            let q : Progress = record p { done = p.done + 1; left = rest; outcomes = [] } in
+            subst P (ap (from (turned c v t) us v) place ∙ sym (is.of_others (p.done + 1 + suc i) (λ same. omega arith)))
+            (plays-same p.actor (still q i l) (still p (suc i) l) (from (turned c v t) us v (p.done + 1 + 1 + i)) (λ os. still-fresh q i l os refl) (rest_is.left i l (others i l there)))
+
   by : (n : Next) → program p.actor line (p.outcomes ++ e.outcome ∷ []) ≡ n → IsAhead c (v ∷ us) v p
   by (Do b) same = goes b same
   by (Say r) same = ends_line r same
@@ -228,6 +241,7 @@ ahead (u ∷ us) c v p here = by (u == v) refl (λ d q there. ahead us d v q the
     next : (n : Next) → program p.actor line p.outcomes ≡ n → IsAhead c (v ∷ us) v p
     next (Do a) does = ahead-turn c v us p line rest a here some does later
     next (Say r) says = ahead-idle c v us p here (ap (turn_at c.state p) some ∙ ap (turn_by c.state p line rest) says) (later c p here)
+
   by : (b : Bool) → (u == v) ≡ b → ((d : Course) (q : Progress) → slice_get d.sections v ≡ Some q → IsAhead d us v q) → IsAhead c (u ∷ us) v p
   by true same later =
       let P : ℕ → Type 0 = λ u. IsAhead c (u ∷ us) v p in

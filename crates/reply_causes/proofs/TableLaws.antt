@@ -92,8 +92,10 @@ act-over actor a f q n ts r closes answers h = first (asked actor a f (drop n ts
   first (By t later split does end) = by (answers t.before) where
     none : later ≡ []
     none = closes t.step.outcome later end
+
     at : last_state (befores ts) ≡ t.before
     at = ap (λ o. unwrap_or o []) (last-drop None n (befores ts) t.before (drop-map (λ (d : Transition). d.before) n ts ∙ ap befores (split ∙ ap (λ xs. t ∷ xs) none)))
+
     by : Answers f (act actor a t.before).outcome (q t.before) → Over (q (last_state (befores ts))) (drop n ts) r
     by (Vanishes is) =
         Vanished (ap any_gone split ∙ ap (λ o. is_gone o || any_gone later) (does.outcome ∙ is)) (vanished actor t.step.outcome f later r (does.outcome ∙ is) end).1
@@ -111,6 +113,7 @@ at_life s d generation a f q acts = by (domain_of s d) refl where
   life x here false l is = Vanishes refl
   life x here true None is = Vanishes refl
   life x here true (Some live) is = acts x live here is
+
   by : (o : Option Domain) → domain_of s d ≡ o → Answers f (act_if_there s d generation o a).outcome q
   by None here = Vanishes refl
   by (Some x) here = life x here (x.generation == generation) x.life refl
@@ -153,8 +156,8 @@ pub fetch-later : (d generation : ℕ) (ps : List Piece) (failed q : Reply) (k :
     → Over (case (is_none (found d ps (drop n (befores ts)))) failed q) (drop n ts) r
 fetch-later d generation ps failed q k n ts r h later =
     let P : List State → Type 0 = λ states. (Ends (Vcpu d generation) (k (unwrap_or (found d ps states) [])) (drop (n + length ps) ts) r → Over q (drop (n + length ps) ts) r)
-      → Over (case (is_none (found d ps states)) failed q) (drop n ts) r in
+    → Over (case (is_none (found d ps states)) failed q) (drop n ts) r in
     let Q : List Transition → Type 0 = λ xs. (Ends (Vcpu d generation) (k (unwrap_or (found d ps (befores (drop n ts))) [])) xs r → Over q xs r)
-      → Over (case (is_none (found d ps (befores (drop n ts)))) failed q) (drop n ts) r in
+    → Over (case (is_none (found d ps (befores (drop n ts)))) failed q) (drop n ts) r in
     subst P (sym (drop-map (λ (t : Transition). t.before) n ts)) (
     subst Q (drop-drop (length ps) n ts) (fetch-over d generation ps failed q k (drop n ts) r h)) later

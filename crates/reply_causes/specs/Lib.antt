@@ -1,5 +1,6 @@
 pub mod Causes
 pub mod ControlCauses
+pub mod Examples
 pub mod MemoryCauses
 pub mod NotifyCauses
 pub mod Plays

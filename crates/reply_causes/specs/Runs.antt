@@ -54,8 +54,8 @@ pub record RepliesHaveCauses (s : Script) (schedule : List ℕ) : Type 0 where
   pub rules : (v k : ℕ) → IfLine s v k (λ actor line. Plays actor (program actor line) (steps_of_line s schedule v k))
   pub last : (v k : ℕ) → IfLine s v k (λ actor line. ReplyIsLast (steps_of_line s schedule v k))
   pub causes :
-    (v k : ℕ) (r : Reply) → last_reply (steps_of_line s schedule v k) ≡ Some r
-    → IfLine s v k (λ actor line. IsTrue (is_line_of actor line) → HasCause actor line (steps_of_line s schedule v k) r)
+      (v k : ℕ) (r : Reply) → last_reply (steps_of_line s schedule v k) ≡ Some r
+      → IfLine s v k (λ actor line. IsTrue (is_line_of actor line) → HasCause actor line (steps_of_line s schedule v k) r)
 
 -- for every script and schedule, and so for every point of a run
 abbrev pub AllRepliesHaveCauses : Type 0
