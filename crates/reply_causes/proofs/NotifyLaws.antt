@@ -37,7 +37,7 @@ use Rattle.reply_causes.specs.Causes.{NotifiesHaveCauses}
 use Rattle.reply_causes.proofs.StepLaws.{Ends, ends, Performs, performs, said, any_gone, befores, Over, Lost, Replied}
 use Rattle.reply_causes.proofs.TableLaws.{over-cause, over-same, says-over, refuses-over, at_once-over, read-over}
 use Rattle.reply_causes.proofs.MemoryLaws.{puts-over}
-use Rattle.reply_causes.proofs.TestLaws.{same-eqb}
+use Rattle.reply_causes.proofs.TestLaws.{same-eqb, get-drop}
 
 -- what follows a step that was not `Gone`
 over-next : (p q : Reply) (t : Transition) (ts : List Transition) (r : Reply) → is_gone t.step.outcome ≡ false → q ≡ p → Over p ts r → Over q (t ∷ ts) r
@@ -145,12 +145,6 @@ query_at d generation to port need s (Some x) = by (x.generation == generation) 
   by false life = Unheard refl
   by true None = Unheard refl
   by true (Some live) = asks x.on
-
-get-drop : {A : Type 0} (n : ℕ) (xs ys : List A) (y : A) → drop n xs ≡ y ∷ ys → slice_get xs n ≡ Some y
-get-drop zero [] ys y h = absurd (let no : ⊥ = cc in no)
-get-drop zero (x ∷ xs) ys y h = let same : x ≡ y = cc in ap Some same
-get-drop (suc n) [] ys y h = absurd (let no : ⊥ = cc in no)
-get-drop (suc n) (x ∷ xs) ys y h = get-drop n xs ys y h
 
 -- the question of an entry, with its answer, and what follows
 question-over : (d generation at : ℕ) (entry : List ℕ) (q : Reply) (more : Rests) (ts : List Transition) (r : Reply)

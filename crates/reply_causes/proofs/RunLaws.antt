@@ -19,12 +19,12 @@ use Rattle.reply_causes.specs.Plays.{IsStepOf, Plays, reply_in}
 use Rattle.reply_causes.proofs.TestLaws.{same-eqb, both_hold}
 
 -- an element that is written is there, and the others are as they were
-get-written : {A : Type 0} (xs : List A) (v : ℕ) (x y : A) → slice_get xs v ≡ Some x → slice_get (slice_set xs v y) v ≡ Some y
+pub get-written : {A : Type 0} (xs : List A) (v : ℕ) (x y : A) → slice_get xs v ≡ Some x → slice_get (slice_set xs v y) v ≡ Some y
 get-written [] v x y h = cc
 get-written (z ∷ zs) zero x y h = refl
 get-written (z ∷ zs) (suc v) x y h = get-written zs v x y h
 
-get-others : {A : Type 0} (xs : List A) (u v : ℕ) (y : A) → u ≢ v → slice_get (slice_set xs u y) v ≡ slice_get xs v
+pub get-others : {A : Type 0} (xs : List A) (u v : ℕ) (y : A) → u ≢ v → slice_get (slice_set xs u y) v ≡ slice_get xs v
 get-others [] u v y h = refl
 get-others (z ∷ zs) zero zero y h = absurd (h refl)
 get-others (z ∷ zs) zero (suc v) y h = refl
@@ -71,7 +71,7 @@ ahead-same c d vs ws v p same h =
     }
 
 -- the course after a turn
-abbrev turned : Course → ℕ → Turn → Course
+abbrev pub turned : Course → ℕ → Turn → Course
 turned c v t = after_turn c v (Some t)
 
 from-idle : (c : Course) (u v k : ℕ) (us : List ℕ) → transition_at c u ≡ None → step c u ≡ c → from c (u ∷ us) v k ≡ from c us v k

@@ -1,5 +1,5 @@
 -- Why each reply of a run came, for every script and schedule.
-use Rattle.std.specs.Prelude.{◌≡◌, ℕ, ◌+◌, Bool, true, List, [], ◌∷◌, map, slice_get, IsTrue, IfSome, Some, None}
+use Rattle.std.specs.Prelude.{◌≡◌, ℕ, ◌+◌, Bool, true, List, [], ◌∷◌, map, slice_get, IsTrue, IsSome, IfSome, Some, None, option_and_then}
 use Rattle.argo_model.specs.declared.scripts.Actor.{Actor}
 use Rattle.argo_model.specs.declared.scripts.Actor.TheVariants.{Vcpu, Control}
 use Rattle.argo_model.specs.declared.line.Line.{Line}
@@ -21,6 +21,12 @@ steps_of_line s schedule v k = transitions_of_line v (k + 1) (transitions_of s s
 -- what holds of the line at a place of a section, and of the section's actor, where they are there
 abbrev pub IfLine : Script → ℕ → ℕ → (Actor → Line → Type 0) → Type 0
 IfLine s v k P = IfSome (slice_get s.sections v) (λ x. IfSome (slice_get x.lines k) (λ line. P x.actor line))
+
+-- the line that a transition is of is there, at a place of its section from 0
+pub record IsOfLine (s : Script) (t : Transition) : Type 0 where
+  pub place : ℕ
+  pub number : t.step.line ≡ place + 1
+  pub there : IsSome (option_and_then (λ x. slice_get x.lines place) (slice_get s.sections t.step.vcpu))
 
 -- a virtual CPU may have any line, and the control section its own
 abbrev pub is_line_of : Actor → Line → Bool
@@ -47,10 +53,11 @@ ReplyIsLast [] = Unit {0}
 ReplyIsLast (t ∷ []) = Unit {0}
 ReplyIsLast (t ∷ u ∷ ts) = (t.step.reply ≡ None) × ReplyIsLast (u ∷ ts)
 
--- of a run: its transitions are its steps; those of each line are by the rules, the next actions of its program; a reply ends its line;
+-- of a run: its transitions are its steps, each of a line of the script; those of each line are by the rules, the next actions of its program; a reply ends its line;
 -- and each reply of a line that its section may have has its cause
 pub record RepliesHaveCauses (s : Script) (schedule : List ℕ) : Type 0 where
   pub steps : map (λ t. t.step) (transitions_of s schedule) ≡ (run s schedule).steps
+  pub lines : (i : ℕ) → IfSome (slice_get (transitions_of s schedule) i) (IsOfLine s)
   pub rules : (v k : ℕ) → IfLine s v k (λ actor line. Plays actor (program actor line) (steps_of_line s schedule v k))
   pub last : (v k : ℕ) → IfLine s v k (λ actor line. ReplyIsLast (steps_of_line s schedule v k))
   pub causes :
