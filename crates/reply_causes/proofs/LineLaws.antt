@@ -12,16 +12,15 @@ use Rattle.argo_model.specs.declared.reply.Reply.{Reply}
 use Rattle.argo_model.specs.declared.action.Action.{Action}
 use Rattle.argo_model.specs.Rules.State.{State}
 use Rattle.argo_model.specs.Rules.Act.{act}
-use Rattle.argo_model.specs.Programs.Program.{Command, RegisterRing, UnregisterRing, SendV, Notify, Unknown, command_of, program, op, caller_of, Rests}
+use Rattle.argo_model.specs.Programs.Program.{Command, RegisterRing, UnregisterRing, SendV, Notify, Unknown, command_of, program, op, Rests}
 use Rattle.argo_model.specs.Programs.Asks.{Next, Do, Say}
 use Rattle.argo_model.specs.Runs.Script.{Script, Section}
-use Rattle.argo_model.specs.Runs.Run.{Progress, Turn, Course, Step, turn, turn_at, turn_by, turn_to, after_turn, step, start, run, at_first_line}
-use Rattle.argo_model.specs.Laws.Transitions.{Transition, transition_of, transition_at, transitions_from, transitions_of, transitions_of_line}
-use Rattle.argo_model.specs.Laws.SendCauses.{SendHasCause}
-use Rattle.reply_causes.specs.Plays.{Plays, PlaysTo, last_reply, reply_in}
-use Rattle.reply_causes.specs.Tables.{Call, states_of, unless_lost}
-use Rattle.reply_causes.specs.Causes.{HasCauses, cause_of_op, cause_of_line, send_of_call}
-use Rattle.reply_causes.specs.Runs.{IsOfLine, steps_of_line, IfLine, is_line_of, CallHasCause, LineHasCause, HasCause, ReplyIsLast, RepliesHaveCauses, AllRepliesHaveCauses}
+use Rattle.argo_model.specs.Runs.Run.{Progress, Turn, Course, turn, turn_at, turn_by, turn_to, after_turn, step, start, at_first_line}
+use Rattle.argo_model.specs.Laws.Transitions.{Transition, transition_of, transition_at, transitions_from, transitions_of_line}
+use Rattle.reply_causes.specs.Plays.{Plays, PlaysTo, reply_in}
+use Rattle.reply_causes.specs.Tables.{states_of, unless_lost}
+use Rattle.reply_causes.specs.Causes.{cause_of_op}
+use Rattle.reply_causes.specs.Runs.{IsOfLine, steps_of_line, IfLine, is_line_of, CallHasCause, HasCause, ReplyIsLast, AllRepliesHaveCauses}
 use Rattle.reply_causes.proofs.ControlLaws.{destroys_have_causes, resets_have_causes, creates_have_causes}
 use Rattle.reply_causes.proofs.MemoryLaws.{stores_have_causes, loads_have_causes, awaits_have_causes}
 use Rattle.reply_causes.proofs.NotifyLaws.{notifies_have_causes}
@@ -144,17 +143,21 @@ turn_is s p t lines at h = by p.left refl h where
   next line rest a n first same = subst (λ t. TurnIs p t lines) same (moved n) where
     found : slice_get lines p.done ≡ Some line
     found = get-drop p.done lines rest line (sym at ∙ first)
+
     is_there : IsSome (slice_get lines p.done)
     is_there = let P : Option Line → Type 0 = λ o. IsSome o in subst P (sym found) refl
+
     moved : (n : Next) → TurnIs p (turn_to p rest a (act p.actor a s) n) lines
     moved (Do b) = record { number = refl; there = is_there; left = at }
     moved (Say r) = record { number = refl; there = is_there; left = drop-next p.done lines rest line (sym at ∙ first) }
+
   does : (line : Line) (rest : List Line) → p.left ≡ line ∷ rest → (n : Next) → turn_by s p line rest n ≡ Some t → TurnIs p t lines
   does line rest first (Say r) h = absurd (let no : ⊥ = cc in no)
   does line rest first (Do a) h =
       let n = program p.actor line (p.outcomes ++ (act p.actor a s).outcome ∷ []) in
       let same : turn_to p rest a (act p.actor a s) n ≡ t = cc in
       next line rest a n first same
+
   by : (left : List Line) → p.left ≡ left → turn_at s p left ≡ Some t → TurnIs p t lines
   by [] none h = absurd (let no : ⊥ = cc in no)
   by (line ∷ rest) first h = does line rest first (program p.actor line p.outcomes) h
@@ -165,13 +168,16 @@ transitions-lines s [] c is i = tt
 transitions-lines s (u ∷ us) c is i = by (slice_get c.sections u) refl (λ d at j. transitions-lines s us d at j) where
   Rest : Type 0
   Rest = (d : Course) → IsAt s d → (j : ℕ) → IfSome (slice_get (transitions_from d us) j) (IsOfLine s)
+
   idle : transition_at c u ≡ None → step c u ≡ c → Rest → IfSome (slice_get (transitions_from c (u ∷ us)) i) (IsOfLine s)
   idle none same rest =
       let P : List Transition → Type 0 = λ ts. IfSome (slice_get ts i) (IsOfLine s) in
       subst P (sym (ap (λ o. option_to_list o ++ transitions_from (step c u) us) none ∙ ap (λ d. transitions_from d us) same)) (rest c is i)
+
   first : (d : Transition) (e : Course) → IsOfLine s d → ((j : ℕ) → IfSome (slice_get (transitions_from e us) j) (IsOfLine s)) → (i : ℕ) → IfSome (slice_get (d ∷ transitions_from e us) i) (IsOfLine s)
   first d e here rest zero = here
   first d e here rest (suc j) = rest j
+
   turns : (p : Progress) → slice_get c.sections u ≡ Some p → (t : Option Turn) → turn c.state p ≡ t → Rest → IfSome (slice_get (transitions_from c (u ∷ us)) i) (IsOfLine s)
   turns p here None none rest =
       idle (ap (λ o. option_and_then (λ p. option_map (transition_of c.state u p) (turn c.state p)) o) here ∙ ap (option_map (transition_of c.state u p)) none)
@@ -188,6 +194,7 @@ transitions-lines s (u ∷ us) c is i = by (slice_get c.sections u) refl (λ d a
       subst P (sym (ap (λ o. option_to_list o ++ transitions_from (step c u) us) transition ∙ ap (λ e. d ∷ transitions_from e us) course))
       (first d (turned c u t) (record { place = p.done; number = facts.number; there = subst There (sym at.1) facts.there })
       (rest (turned c u t) (turned-at s c u p t is here (λ x left. (turn_is c.state p t x.lines left some).left))) i)
+
   by : (o : Option Progress) → slice_get c.sections u ≡ o → Rest → IfSome (slice_get (transitions_from c (u ∷ us)) i) (IsOfLine s)
   by None there rest =
       idle (ap (λ o. option_and_then (λ p. option_map (transition_of c.state u p) (turn c.state p)) o) there)
