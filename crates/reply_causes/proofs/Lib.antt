@@ -1,10 +1,13 @@
 pub mod ControlLaws
 pub mod DeliverLaws
 pub mod FetchLaws
+pub mod LineLaws
 pub mod MemoryLaws
 pub mod MetLaws
+pub mod NotifyLaws
 pub mod RecvLaws
 pub mod RegisterLaws
+pub mod Rows
 pub mod RunLaws
 pub mod SendLaws
 pub mod SendReadLaws

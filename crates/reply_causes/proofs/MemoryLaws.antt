@@ -14,15 +14,15 @@ use Rattle.argo_model.specs.declared.reply.Reply.TheVariants.{Stored, Hex, Signa
 use Rattle.argo_model.specs.Rules.State.{State, Domain, Live, domain_of, has_page}
 use Rattle.argo_model.specs.Rules.Effects.{answered, leaving, change_in}
 use Rattle.argo_model.specs.Rules.Puts.{put_into}
-use Rattle.argo_model.specs.Rules.Act.{act, act_if_there, act_if_live}
+use Rattle.argo_model.specs.Rules.Act.{act_if_there, act_if_live}
 use Rattle.argo_model.specs.Rules.Outcomes.{is_gone}
-use Rattle.argo_model.specs.Programs.Program.{Rests, Say, unless_gone, if_done, put_all, fetch_all, store, load, await, if_flag}
+use Rattle.argo_model.specs.Programs.Program.{Rests, Say, unless_gone, if_done, put_all, store, load, await, if_flag}
 use Rattle.argo_model.specs.Laws.Transitions.{Transition}
 use Rattle.argo_model.specs.Laws.NoticeEnds.{has_flag}
 use Rattle.argo_model.specs.Laws.SendCauses.{piece_of, piece_in, found}
 use Rattle.reply_causes.specs.Tables.{case}
 use Rattle.reply_causes.specs.MemoryCauses.{cause_of_store, cause_of_load, cause_of_await, hex_or_fault}
-use Rattle.reply_causes.specs.Causes.{StoresHaveCauses, LoadsHaveCauses, AwaitsHaveCauses}
+use Rattle.reply_causes.specs.Causes.{StoresHaveCauses, LoadsHaveCauses, AwaitsHaveCauses, AwaitsLookTurns}
 use Rattle.reply_causes.proofs.StepLaws.{Ends, ends, Performs, performs, said, any_gone, befores, Over, Lost as Vanished, Replied}
 use Rattle.reply_causes.proofs.FetchLaws.{Fetched, Lost, Missed, Found, fetch_all-ends, found_more, found_none}
 use Rattle.reply_causes.proofs.TableLaws.{over-cause, says-over}
@@ -41,6 +41,7 @@ put_at d generation s p bytes (Some x) = by (x.generation == generation) x.life 
       (change_in s d (cond b (leaving Done (put_into live p.page p.off bytes)) (answered Absent))).outcome
   page live true = Puts _ refl refl
   page live false = Misses refl refl
+
   by : (b : Bool) (life : Option Live) → PutsInto (option_and_then (piece_of p) life) (act_if_live s d x (cond b life None) (Put p.page p.off bytes)).outcome
   by false life = Vanishes refl
   by true None = Vanishes refl
@@ -61,32 +62,38 @@ puts-over d generation (p ∷ ps) bytes failed q k [] r h later = absurd (let no
 puts-over d generation (p ∷ ps) bytes failed q k (t ∷ ts) r h later =
     by (put_is d generation p (take p.n bytes) t (performs (Vcpu d generation) (Put p.page p.off (take p.n bytes)) (put_all (p ∷ ps) bytes (Say failed) k) t refl h.0))
     (λ rest. puts-over d generation ps (drop p.n bytes) failed q k ts r rest later) where
-  actor : Actor
-  actor = Vcpu d generation
-  reader : Outcome → Rests
-  reader = if_done (Say failed) (λ os. put_all ps (drop p.n bytes) (Say failed) k os)
-  rest : (o : Outcome) → t.step.outcome ≡ o → Ends actor (λ os. unless_gone o reader os) ts r
-  rest o is = let P : Outcome → Type 0 = λ x. Ends actor (λ os. unless_gone x reader os) ts r in subst P is h.1
-  gone_too : (o : Outcome) → t.step.outcome ≡ o → any_gone (t ∷ ts) ≡ (is_gone o || any_gone ts)
-  gone_too o is = ap (λ x. is_gone x || any_gone ts) is
-  same_rows : (bs : List ℕ) → piece_in t.before d p ≡ Some bs → (o : Option (List ℕ)) → found d ps (befores ts) ≡ o
-      → case (is_none (found d ps (befores ts))) failed q ≡ case (is_none (found d (p ∷ ps) (befores (t ∷ ts)))) failed q
-  same_rows bs here None none =
-      ap (λ o. case (is_none o) failed q) none ∙ sym (ap (λ o. case (is_none o) failed q) (found_more d p ps t.before (befores ts) bs here ∙ ap (option_map (λ more. bs ++ more)) none))
-  same_rows bs here (Some cs) some =
-      ap (λ o. case (is_none o) failed q) some ∙ sym (ap (λ o. case (is_none o) failed q) (found_more d p ps t.before (befores ts) bs here ∙ ap (option_map (λ more. bs ++ more)) some))
-  more : (bs : List ℕ) → t.step.outcome ≡ Done → piece_in t.before d p ≡ Some bs → Over (case (is_none (found d ps (befores ts))) failed q) ts r
-      → Over (case (is_none (found d (p ∷ ps) (befores (t ∷ ts)))) failed q) (t ∷ ts) r
-  more bs is here (Vanished some same) = Vanished (gone_too Done is ∙ some) same
-  more bs is here (Replied none same) = Replied (gone_too Done is ∙ none) (sym (same_rows bs here (found d ps (befores ts)) refl) ∙ same)
-  by : PutsInto (piece_in t.before d p) t.step.outcome
-      → (Ends actor (λ os. put_all ps (drop p.n bytes) (Say failed) k os) ts r → Over (case (is_none (found d ps (befores ts))) failed q) ts r)
-      → Over (case (is_none (found d (p ∷ ps) (befores (t ∷ ts)))) failed q) (t ∷ ts) r
-  by (Vanishes is) next = let end = said actor gone ts r (rest Gone is) in Vanished (gone_too Gone is) end.1
-  by (Misses is here) next =
-      let end = said actor failed ts r (rest Absent is) in
-      Replied (gone_too Absent is ∙ ap any_gone end.0) (ap (λ o. case (is_none o) failed q) (found_none d p ps t.before (befores ts) here) ∙ end.1)
-  by (Puts bs is here) next = more bs is here (next (rest Done is))
+      actor : Actor
+      actor = Vcpu d generation
+
+      reader : Outcome → Rests
+      reader = if_done (Say failed) (λ os. put_all ps (drop p.n bytes) (Say failed) k os)
+
+      rest : (o : Outcome) → t.step.outcome ≡ o → Ends actor (λ os. unless_gone o reader os) ts r
+      rest o is = let P : Outcome → Type 0 = λ x. Ends actor (λ os. unless_gone x reader os) ts r in subst P is h.1
+
+      gone_too : (o : Outcome) → t.step.outcome ≡ o → any_gone (t ∷ ts) ≡ (is_gone o || any_gone ts)
+      gone_too o is = ap (λ x. is_gone x || any_gone ts) is
+
+      same_rows : (bs : List ℕ) → piece_in t.before d p ≡ Some bs → (o : Option (List ℕ)) → found d ps (befores ts) ≡ o
+          → case (is_none (found d ps (befores ts))) failed q ≡ case (is_none (found d (p ∷ ps) (befores (t ∷ ts)))) failed q
+      same_rows bs here None none =
+          ap (λ o. case (is_none o) failed q) none ∙ sym (ap (λ o. case (is_none o) failed q) (found_more d p ps t.before (befores ts) bs here ∙ ap (option_map (λ more. bs ++ more)) none))
+      same_rows bs here (Some cs) some =
+          ap (λ o. case (is_none o) failed q) some ∙ sym (ap (λ o. case (is_none o) failed q) (found_more d p ps t.before (befores ts) bs here ∙ ap (option_map (λ more. bs ++ more)) some))
+
+      more : (bs : List ℕ) → t.step.outcome ≡ Done → piece_in t.before d p ≡ Some bs → Over (case (is_none (found d ps (befores ts))) failed q) ts r
+          → Over (case (is_none (found d (p ∷ ps) (befores (t ∷ ts)))) failed q) (t ∷ ts) r
+      more bs is here (Vanished some same) = Vanished (gone_too Done is ∙ some) same
+      more bs is here (Replied none same) = Replied (gone_too Done is ∙ none) (sym (same_rows bs here (found d ps (befores ts)) refl) ∙ same)
+
+      by : PutsInto (piece_in t.before d p) t.step.outcome
+          → (Ends actor (λ os. put_all ps (drop p.n bytes) (Say failed) k os) ts r → Over (case (is_none (found d ps (befores ts))) failed q) ts r)
+          → Over (case (is_none (found d (p ∷ ps) (befores (t ∷ ts)))) failed q) (t ∷ ts) r
+      by (Vanishes is) next = let end = said actor gone ts r (rest Gone is) in Vanished (gone_too Gone is) end.1
+      by (Misses is here) next =
+          let end = said actor failed ts r (rest Absent is) in
+          Replied (gone_too Absent is ∙ ap any_gone end.0) (ap (λ o. case (is_none o) failed q) (found_none d p ps t.before (befores ts) here) ∙ end.1)
+      by (Puts bs is here) next = more bs is here (next (rest Done is))
 
 pub stores_have_causes : StoresHaveCauses
 stores_have_causes d generation at bytes ts r h =
@@ -98,12 +105,12 @@ pub loads_have_causes : LoadsHaveCauses
 loads_have_causes d generation at n ts r h =
     over-cause (cause_of_load d at n (befores ts)) ts r (
     by (fetch_all-ends d generation (pieces at n) [] Fault (λ bs os. Say (Hex bs)) ts r (ends (Vcpu d generation) (λ os. load at n os) ts r h))) where
-  by : Fetched d generation (pieces at n) [] Fault (λ bs os. Say (Hex bs)) ts r → Over (cause_of_load d at n (befores ts)) ts r
-  by (Lost some same) = Vanished some same
-  by (Missed none absent same) = Replied none (ap hex_or_fault absent ∙ same)
-  by (Found bs all g rest) =
-      let end = said (Vcpu d generation) (Hex bs) (drop (length (pieces at n)) ts) r rest in
-      Replied (g ∙ ap any_gone end.0) (ap hex_or_fault all ∙ end.1)
+      by : Fetched d generation (pieces at n) [] Fault (λ bs os. Say (Hex bs)) ts r → Over (cause_of_load d at n (befores ts)) ts r
+      by (Lost some same) = Vanished some same
+      by (Missed none absent same) = Replied none (ap hex_or_fault absent ∙ same)
+      by (Found bs all g rest) =
+          let end = said (Vcpu d generation) (Hex bs) (drop (length (pieces at n)) ts) r rest in
+          Replied (g ∙ ap any_gone end.0) (ap hex_or_fault all ∙ end.1)
 
 -- what a look comes to, beside the flag in the state that it finds
 data Looks (flag : Bool) (o : Outcome) : Type 0 where
@@ -126,29 +133,64 @@ await-over d generation zero ts r h =
 await-over d generation (suc n) [] r h = absurd (let no : ⊥ = cc in no)
 await-over d generation (suc n) (t ∷ ts) r h =
     by (let P : Outcome → Type 0 = λ o. Looks (has_flag t.before d) o in
-      subst P (sym does.outcome) (look_at d generation t.before (domain_of t.before d)))
+    subst P (sym does.outcome) (look_at d generation t.before (domain_of t.before d)))
     (λ rest. await-over d generation n ts r rest) where
-  actor : Actor
-  actor = Vcpu d generation
-  does : Performs actor LookNow t
-  does = performs actor LookNow (await (suc n)) t refl h.0
-  rest : (o : Outcome) → t.step.outcome ≡ o → Ends actor (λ os. unless_gone o (if_flag (λ os. await n os)) os) ts r
-  rest o is = let P : Outcome → Type 0 = λ x. Ends actor (λ os. unless_gone x (if_flag (λ os. await n os)) os) ts r in subst P is h.1
-  gone_too : (o : Outcome) → t.step.outcome ≡ o → any_gone (t ∷ ts) ≡ (is_gone o || any_gone ts)
-  gone_too o is = ap (λ x. is_gone x || any_gone ts) is
-  cause_is : (b : Bool) → has_flag t.before d ≡ b → cause_of_await d (befores (t ∷ ts)) ≡ case (b || list_any (λ s. has_flag s d) (befores ts)) Signal NoSignal
-  cause_is b is = ap (λ x. case (x || list_any (λ s. has_flag s d) (befores ts)) Signal NoSignal) is
-  more : t.step.outcome ≡ Flag false → has_flag t.before d ≡ false → Over (cause_of_await d (befores ts)) ts r → Over (cause_of_await d (befores (t ∷ ts))) (t ∷ ts) r
-  more is clear (Vanished some same) = Vanished (gone_too (Flag false) is ∙ some) same
-  more is clear (Replied none same) = Replied (gone_too (Flag false) is ∙ none) (cause_is false clear ∙ same)
-  sees : (b : Bool) → has_flag t.before d ≡ b → t.step.outcome ≡ Flag b
-      → (Ends actor (λ os. await n os) ts r → Over (cause_of_await d (befores ts)) ts r) → Over (cause_of_await d (befores (t ∷ ts))) (t ∷ ts) r
-  sees true set is later = let end = said actor Signal ts r (rest (Flag true) is) in Replied (gone_too (Flag true) is ∙ ap any_gone end.0) (cause_is true set ∙ end.1)
-  sees false clear is later = more is clear (later (rest (Flag false) is))
-  by : Looks (has_flag t.before d) t.step.outcome → (Ends actor (λ os. await n os) ts r → Over (cause_of_await d (befores ts)) ts r) → Over (cause_of_await d (befores (t ∷ ts))) (t ∷ ts) r
-  by (Unseen is) later = let end = said actor gone ts r (rest Gone is) in Vanished (gone_too Gone is) end.1
-  by (Sees is) later = sees (has_flag t.before d) refl is later
+      actor : Actor
+      actor = Vcpu d generation
+
+      does : Performs actor LookNow t
+      does = performs actor LookNow (await (suc n)) t refl h.0
+
+      rest : (o : Outcome) → t.step.outcome ≡ o → Ends actor (λ os. unless_gone o (if_flag (λ os. await n os)) os) ts r
+      rest o is = let P : Outcome → Type 0 = λ x. Ends actor (λ os. unless_gone x (if_flag (λ os. await n os)) os) ts r in subst P is h.1
+
+      gone_too : (o : Outcome) → t.step.outcome ≡ o → any_gone (t ∷ ts) ≡ (is_gone o || any_gone ts)
+      gone_too o is = ap (λ x. is_gone x || any_gone ts) is
+
+      cause_is : (b : Bool) → has_flag t.before d ≡ b → cause_of_await d (befores (t ∷ ts)) ≡ case (b || list_any (λ s. has_flag s d) (befores ts)) Signal NoSignal
+      cause_is b is = ap (λ x. case (x || list_any (λ s. has_flag s d) (befores ts)) Signal NoSignal) is
+
+      more : t.step.outcome ≡ Flag false → has_flag t.before d ≡ false → Over (cause_of_await d (befores ts)) ts r → Over (cause_of_await d (befores (t ∷ ts))) (t ∷ ts) r
+      more is clear (Vanished some same) = Vanished (gone_too (Flag false) is ∙ some) same
+      more is clear (Replied none same) = Replied (gone_too (Flag false) is ∙ none) (cause_is false clear ∙ same)
+
+      sees : (b : Bool) → has_flag t.before d ≡ b → t.step.outcome ≡ Flag b
+          → (Ends actor (λ os. await n os) ts r → Over (cause_of_await d (befores ts)) ts r) → Over (cause_of_await d (befores (t ∷ ts))) (t ∷ ts) r
+      sees true set is later = let end = said actor Signal ts r (rest (Flag true) is) in Replied (gone_too (Flag true) is ∙ ap any_gone end.0) (cause_is true set ∙ end.1)
+      sees false clear is later = more is clear (later (rest (Flag false) is))
+
+      by : Looks (has_flag t.before d) t.step.outcome → (Ends actor (λ os. await n os) ts r → Over (cause_of_await d (befores ts)) ts r) → Over (cause_of_await d (befores (t ∷ ts))) (t ∷ ts) r
+      by (Unseen is) later = let end = said actor gone ts r (rest Gone is) in Vanished (gone_too Gone is) end.1
+      by (Sees is) later = sees (has_flag t.before d) refl is later
 
 pub awaits_have_causes : AwaitsHaveCauses
 awaits_have_causes d generation turns ts r h =
     over-cause (cause_of_await d (befores ts)) ts r (await-over d generation turns ts r (ends (Vcpu d generation) (λ os. await turns os) ts r h))
+
+-- without a signal it has looked as often as it may
+await-turns : (d generation n : ℕ) (ts : List Transition) → Ends (Vcpu d generation) (λ os. await n os) ts NoSignal → length ts ≡ n
+await-turns d generation zero ts h = ap length (said (Vcpu d generation) NoSignal ts NoSignal h).0
+await-turns d generation (suc n) [] h = absurd (let no : ⊥ = cc in no)
+await-turns d generation (suc n) (t ∷ ts) h =
+    by (let P : Outcome → Type 0 = λ o. Looks (has_flag t.before d) o in
+    subst P (sym does.outcome) (look_at d generation t.before (domain_of t.before d)))
+    (λ rest. await-turns d generation n ts rest) where
+      actor : Actor
+      actor = Vcpu d generation
+
+      does : Performs actor LookNow t
+      does = performs actor LookNow (await (suc n)) t refl h.0
+
+      rest : (o : Outcome) → t.step.outcome ≡ o → Ends actor (λ os. unless_gone o (if_flag (λ os. await n os)) os) ts NoSignal
+      rest o is = let P : Outcome → Type 0 = λ x. Ends actor (λ os. unless_gone x (if_flag (λ os. await n os)) os) ts NoSignal in subst P is h.1
+
+      sees : (b : Bool) → t.step.outcome ≡ Flag b → (Ends actor (λ os. await n os) ts NoSignal → length ts ≡ n) → length (t ∷ ts) ≡ suc n
+      sees true is later = let end = (said actor Signal ts NoSignal (rest (Flag true) is)).1 in absurd (let no : ⊥ = cc in no)
+      sees false is later = ap suc (later (rest (Flag false) is))
+
+      by : Looks (has_flag t.before d) t.step.outcome → (Ends actor (λ os. await n os) ts NoSignal → length ts ≡ n) → length (t ∷ ts) ≡ suc n
+      by (Unseen is) later = let end = (said actor gone ts NoSignal (rest Gone is)).1 in absurd (let no : ⊥ = cc in no)
+      by (Sees is) later = sees (has_flag t.before d) is later
+
+pub awaits_look_turns : AwaitsLookTurns
+awaits_look_turns d generation turns ts h = await-turns d generation turns ts (ends (Vcpu d generation) (λ os. await turns os) ts NoSignal h)

@@ -1,5 +1,5 @@
 -- A recv has its cause.
-use Rattle.std.proofs.Common.{◌≡◌, ℕ, ◌+◌, ◌-◌, ◌*◌, ◌==◌, not, ◌&&◌, List, [], length, drop, Option, sym, subst}
+use Rattle.std.proofs.Common.{ℕ, ◌-◌, ◌*◌, ◌==◌, not, ◌&&◌, List, [], length, drop, sym, subst}
 use Rattle.std.specs.Prelude.{unwrap_or, is_none}
 use Rattle.std.proofs.lemmas.List.{drop-map}
 use Rattle.argo_base.specs.Layout.{u32_at, u32_bytes}
@@ -9,7 +9,7 @@ use Rattle.argo_model.specs.declared.scripts.Actor.TheVariants.{Vcpu}
 use Rattle.argo_model.specs.declared.reply.Reply.{Reply}
 use Rattle.argo_model.specs.declared.reply.Reply.TheVariants.{Empty, Bad, Fault}
 use Rattle.argo_model.specs.Rules.State.{State}
-use Rattle.argo_model.specs.Programs.Asks.{Rests, Say, fetch_all, put_all}
+use Rattle.argo_model.specs.Programs.Asks.{Say, fetch_all}
 use Rattle.argo_model.specs.Programs.Recv.{recv, recv_at, say_if, recv_words, recv_head, recv_body, received, is_message_head, take_slots}
 use Rattle.argo_model.specs.Laws.Transitions.{Transition}
 use Rattle.argo_model.specs.Laws.SendCauses.{found}
@@ -32,20 +32,24 @@ recv-over d generation ring len ts r h =
     replies-over actor (not (is_message_head len (rx_of l) (tx_of l) (head_of l))) Bad _
     (λ os. take_slots ring len (place_after len (rx_of l) 16) (u32_at (head_of l) 0 - 16) (recv_body ring len (rx_of l) (head_of l)) os) (drop (head_steps ring len (rx_of l)) ts) r h (λ h.
     fetch-later d generation (body_pieces ring len (rx_of l) (head_of l)) Fault _ (recv_body ring len (rx_of l) (head_of l)) (head_steps ring len (rx_of l)) ts r h moves)))))) where
-  actor : Actor
-  actor = Vcpu d generation
-  l : Looked
-  l = recv_looked d ring len (befores ts)
-  n : ℕ
-  n = body_steps ring len (rx_of l) (head_of l)
-  body : List ℕ
-  body = unwrap_or l.body []
-  moves : Ends actor (λ os. recv_body ring len (rx_of l) (head_of l) body os) (drop n ts) r → Over (case (is_none l.moved) Fault (received (head_of l) body)) (drop n ts) r
-  moves h =
-      let P : List State → Type 0 = λ states. Over (case (is_none (found d (rx_pieces ring) states)) Fault (received (head_of l) body)) (drop n ts) r in
-      subst P (sym (drop-map (λ (t : Transition). t.before) n ts)) (
-      puts-over d generation (rx_pieces ring) (u32_bytes (place_after len (rx_of l) (up (u32_at (head_of l) 0)))) Fault (received (head_of l) body)
-      (λ os. Say (received (head_of l) body)) (drop n ts) r h (λ h. says-over actor (received (head_of l) body) (drop (length (rx_pieces ring)) (drop n ts)) r h))
+      actor : Actor
+      actor = Vcpu d generation
+
+      l : Looked
+      l = recv_looked d ring len (befores ts)
+
+      n : ℕ
+      n = body_steps ring len (rx_of l) (head_of l)
+
+      body : List ℕ
+      body = unwrap_or l.body []
+
+      moves : Ends actor (λ os. recv_body ring len (rx_of l) (head_of l) body os) (drop n ts) r → Over (case (is_none l.moved) Fault (received (head_of l) body)) (drop n ts) r
+      moves h =
+          let P : List State → Type 0 = λ states. Over (case (is_none (found d (rx_pieces ring) states)) Fault (received (head_of l) body)) (drop n ts) r in
+          subst P (sym (drop-map (λ (t : Transition). t.before) n ts)) (
+          puts-over d generation (rx_pieces ring) (u32_bytes (place_after len (rx_of l) (up (u32_at (head_of l) 0)))) Fault (received (head_of l) body)
+          (λ os. Say (received (head_of l) body)) (drop n ts) r h (λ h. says-over actor (received (head_of l) body) (drop (length (rx_pieces ring)) (drop n ts)) r h))
 
 pub recvs_have_causes : RecvsHaveCauses
 recvs_have_causes d generation page len ts r h =

@@ -1,12 +1,11 @@
 -- register_ring, unregister_ring and unknown commands have their causes.
-use Rattle.std.proofs.Common.{◌≡◌, ℕ, ◌+◌, ◌*◌, ◌==◌, nat_lt, nat_le, Bool, true, false, not, ◌&&◌, cond, List, [], length, drop, Option, Some, None, refl, sym, ap, ◌∙◌, subst}
+use Rattle.std.proofs.Common.{◌≡◌, ℕ, ◌+◌, ◌*◌, ◌==◌, nat_lt, nat_le, Bool, true, false, not, ◌&&◌, cond, List, [], length, drop, Option, Some, None, sym, ap, ◌∙◌, subst}
 use Rattle.std.specs.Prelude.{unwrap_or, is_none, option_map, option_and_then}
 use Rattle.std.proofs.lemmas.List.{drop-map}
 use Rattle.std.proofs.Math.Seq.{drop-drop}
 use Rattle.argo_base.specs.declared.errno.Errno.TheVariants.{NoEnt, Srch, Fault as efault, Exist, NoDev, Inval, NoSpc, OpNotSupp, ConnRefused}
 use Rattle.argo_base.specs.declared.ring_key.RingKey.{RingKey}
 use Rattle.argo_base.specs.Layout.{u16_at, u32_at, numbers_at}
-use Rattle.argo_base.specs.Match.{key_of}
 use Rattle.argo_base.specs.Pieces.{pieces}
 use Rattle.argo_model.specs.declared.scripts.Actor.{Actor}
 use Rattle.argo_model.specs.declared.scripts.Actor.TheVariants.{Vcpu}
@@ -18,14 +17,14 @@ use Rattle.argo_model.specs.Rules.Act.{act}
 use Rattle.argo_model.specs.Rules.Effects.{answered}
 use Rattle.argo_model.specs.Rules.Limits.{most_rings}
 use Rattle.argo_model.specs.Rules.Register.{register, register_allowed, register_anew, has_ring, own_ring, are_free_for, is_single, stands_so, unregister}
-use Rattle.argo_model.specs.Programs.Asks.{Rests, ask, read, refuse_if as refuses_if, say_done}
-use Rattle.argo_model.specs.Programs.Program.{command_of, Unknown, op, Command}
+use Rattle.argo_model.specs.Programs.Asks.{ask, read, say_done}
+use Rattle.argo_model.specs.Programs.Program.{Unknown, op, Command}
 use Rattle.argo_model.specs.Programs.Register.{register_ring, register_head, register_pages, is_register_head, unregister_ring, unregister_head, has_more}
 use Rattle.argo_model.specs.Laws.Transitions.{Transition}
 use Rattle.argo_model.specs.Laws.SendCauses.{found, row, says}
 use Rattle.reply_causes.specs.Plays.{PlaysTo}
 use Rattle.reply_causes.specs.Tables.{Call, last_state, zero_reply, states_of, unless_lost}
-use Rattle.reply_causes.specs.RegisterCauses.{Looked, cause_of_register, cause_of_unregister, register_looked, unregister_looked, partner_of, key_named, has_named, has_most, has_free}
+use Rattle.reply_causes.specs.RegisterCauses.{Looked, cause_of_register, cause_of_unregister, register_looked, unregister_looked, partner_of, key_named}
 use Rattle.reply_causes.specs.Causes.{RegistersHaveCauses, UnregistersHaveCauses, UnknownsHaveCauses, cause_of_op}
 use Rattle.reply_causes.proofs.StepLaws.{Ends, ends, Tells, befores, Over, always}
 use Rattle.reply_causes.proofs.TableLaws.{over-cause, over-same, refuses-over, at_once-over, read-over, act-over, Answers, Answered, at_life, tells_if, done-tells, done_closes}
@@ -57,7 +56,7 @@ live_is s d x live here is = ap (λ o. option_and_then (λ (x : Domain). x.life)
 
 register-answers : (c : Call) (generation : ℕ) (head list : Option (List ℕ)) (s : State)
     → Answers say_done (act (Vcpu c.caller generation) (Register (u32_at (unwrap_or head []) 0) (u16_at (unwrap_or head []) 4) (u32_at (unwrap_or head []) 8) (numbers_at (unwrap_or list []) c.a3) (c.a4 == 1)) s).outcome
-      (registered c (record { head = head; list = list; state = s }) (is_on s c.caller) (live_of s c.caller))
+    (registered c (record { head = head; list = list; state = s }) (is_on s c.caller) (live_of s c.caller))
 register-answers c generation head list s =
     at_life s c.caller generation _ say_done _ (λ x live here is.
     let l : Looked = record { head = head; list = list; state = s } in
@@ -80,27 +79,33 @@ register-over c generation ts r h =
     refuses-over actor (not (is_register_head c.a3 (unwrap_or head []))) Inval _ (λ os. read c.a2 (8 * c.a3) (register_pages c.a3 c.a4 (unwrap_or head [])) os) (drop n ts) r h (λ h.
     later_states c.caller c.a2 (8 * c.a3) n ts listed r (
     read-over c.caller generation c.a2 (8 * c.a3) _ (register_pages c.a3 c.a4 (unwrap_or head [])) (drop n ts) r h (acts (found c.caller (pieces c.a2 (8 * c.a3)) (befores (drop n ts)))))))) where
-  actor : Actor
-  actor = Vcpu c.caller generation
-  n : ℕ
-  n = length (pieces c.a1 12)
-  m : ℕ
-  m = length (pieces c.a2 (8 * c.a3))
-  head : Option (List ℕ)
-  head = found c.caller (pieces c.a1 12) (befores ts)
-  act_rows : Option (List ℕ) → State → Reply
-  act_rows list s = registered c (record { head = head; list = list; state = s }) (is_on s c.caller) (live_of s c.caller)
-  listed : Option (List ℕ) → Reply
-  listed list = row (is_none list) efault (act_rows list (last_state (befores ts)))
-  acts : (list : Option (List ℕ)) → Ends actor (λ os. register_pages c.a3 c.a4 (unwrap_or head []) (unwrap_or list []) os) (drop m (drop n ts)) r
-      → Over (act_rows list (last_state (befores ts))) (drop m (drop n ts)) r
-  acts list h =
-      let P : List Transition → Type 0 = λ xs. Ends actor (λ os. register_pages c.a3 c.a4 (unwrap_or head []) (unwrap_or list []) os) xs r in
-      let Q : List Transition → Type 0 = λ xs. Over (act_rows list (last_state (befores ts))) xs r in
-      let same = drop-drop m n ts in
-      subst Q (sym same) (
-      act-over actor (Register (u32_at (unwrap_or head []) 0) (u16_at (unwrap_or head []) 4) (u32_at (unwrap_or head []) 8) (numbers_at (unwrap_or list []) c.a3) (c.a4 == 1)) say_done
-      (act_rows list) (n + m) ts r (λ o xs end. done_closes actor o xs r end) (register-answers c generation head list) (subst P same h))
+      actor : Actor
+      actor = Vcpu c.caller generation
+
+      n : ℕ
+      n = length (pieces c.a1 12)
+
+      m : ℕ
+      m = length (pieces c.a2 (8 * c.a3))
+
+      head : Option (List ℕ)
+      head = found c.caller (pieces c.a1 12) (befores ts)
+
+      act_rows : Option (List ℕ) → State → Reply
+      act_rows list s = registered c (record { head = head; list = list; state = s }) (is_on s c.caller) (live_of s c.caller)
+
+      listed : Option (List ℕ) → Reply
+      listed list = row (is_none list) efault (act_rows list (last_state (befores ts)))
+
+      acts : (list : Option (List ℕ)) → Ends actor (λ os. register_pages c.a3 c.a4 (unwrap_or head []) (unwrap_or list []) os) (drop m (drop n ts)) r
+          → Over (act_rows list (last_state (befores ts))) (drop m (drop n ts)) r
+      acts list h =
+          let P : List Transition → Type 0 = λ xs. Ends actor (λ os. register_pages c.a3 c.a4 (unwrap_or head []) (unwrap_or list []) os) xs r in
+          let Q : List Transition → Type 0 = λ xs. Over (act_rows list (last_state (befores ts))) xs r in
+          let same = drop-drop m n ts in
+          subst Q (sym same) (
+          act-over actor (Register (u32_at (unwrap_or head []) 0) (u16_at (unwrap_or head []) 4) (u32_at (unwrap_or head []) 8) (numbers_at (unwrap_or list []) c.a3) (c.a4 == 1)) say_done
+          (act_rows list) (n + m) ts r (λ o xs end. done_closes actor o xs r end) (register-answers c generation head list) (subst P same h))
 
 pub registers_have_causes : RegistersHaveCauses
 registers_have_causes d generation a1 a2 a3 a4 ts r h =
@@ -116,7 +121,7 @@ unregistered c l on life =
 
 unregister-answers : (c : Call) (generation : ℕ) (head : Option (List ℕ)) (s : State)
     → Answers say_done (act (Vcpu c.caller generation) (Unregister (u32_at (unwrap_or head []) 0) (u16_at (unwrap_or head []) 4)) s).outcome
-      (unregistered c (record { head = head; list = None; state = s }) (is_on s c.caller) (live_of s c.caller))
+    (unregistered c (record { head = head; list = None; state = s }) (is_on s c.caller) (live_of s c.caller))
 unregister-answers c generation head s =
     at_life s c.caller generation _ say_done _ (λ x live here is.
     let l : Looked = record { head = head; list = None; state = s } in
@@ -132,14 +137,17 @@ unregister-over c generation ts r h =
     read-over c.caller generation c.a1 8 _ unregister_head ts r h (λ h.
     refuses-over actor (not (u16_at (unwrap_or head []) 6 == 0)) Inval _ (λ os. ask (Unregister (u32_at (unwrap_or head []) 0) (u16_at (unwrap_or head []) 4)) say_done os) (drop n ts) r h (λ h.
     act-over actor (Unregister (u32_at (unwrap_or head []) 0) (u16_at (unwrap_or head []) 4)) say_done act_rows n ts r (λ o xs end. done_closes actor o xs r end) (unregister-answers c generation head) h))) where
-  actor : Actor
-  actor = Vcpu c.caller generation
-  n : ℕ
-  n = length (pieces c.a1 8)
-  head : Option (List ℕ)
-  head = found c.caller (pieces c.a1 8) (befores ts)
-  act_rows : State → Reply
-  act_rows s = unregistered c (record { head = head; list = None; state = s }) (is_on s c.caller) (live_of s c.caller)
+      actor : Actor
+      actor = Vcpu c.caller generation
+
+      n : ℕ
+      n = length (pieces c.a1 8)
+
+      head : Option (List ℕ)
+      head = found c.caller (pieces c.a1 8) (befores ts)
+
+      act_rows : State → Reply
+      act_rows s = unregistered c (record { head = head; list = None; state = s }) (is_on s c.caller) (live_of s c.caller)
 
 pub unregisters_have_causes : UnregistersHaveCauses
 unregisters_have_causes d generation a1 a2 a3 a4 ts r h =
@@ -147,11 +155,14 @@ unregisters_have_causes d generation a1 a2 a3 a4 ts r h =
     over-cause (cause_of_unregister c (unregister_looked c (befores ts))) ts r (
     unregister-over c generation ts r (ends (Vcpu d generation) (λ os. unregister_ring a1 a2 a3 a4 os) ts r h))
 
+pub unknown-cause : (d generation a1 a2 a3 a4 : ℕ) (ts : List Transition) (r : Reply)
+    → PlaysTo (Vcpu d generation) (λ os. op d Unknown a1 a2 a3 a4 os) ts r → r ≡ unless_lost ts (says OpNotSupp)
+unknown-cause d generation a1 a2 a3 a4 ts r h =
+    over-cause (says OpNotSupp) ts r (always (Vcpu d generation) Rest (says OpNotSupp) ts r (ends (Vcpu d generation) (λ os. op d Unknown a1 a2 a3 a4 os) ts r h))
+
 pub unknowns_have_causes : UnknownsHaveCauses
 unknowns_have_causes c none d generation a1 a2 a3 a4 ts r h =
     let call : Call = record { caller = d; a1 = a1; a2 = a2; a3 = a3; a4 = a4 } in
     let P : Command → Type 0 = λ x. PlaysTo (Vcpu d generation) (λ os. op d x a1 a2 a3 a4 os) ts r in
     let Q : Command → Type 0 = λ x. r ≡ unless_lost ts (cause_of_op x call (states_of ts)) in
-    subst Q (sym none) (
-    over-cause (says OpNotSupp) ts r (
-    always (Vcpu d generation) Rest (says OpNotSupp) ts r (ends (Vcpu d generation) (λ os. op d Unknown a1 a2 a3 a4 os) ts r (subst P none h))))
+    subst Q (sym none) (unknown-cause d generation a1 a2 a3 a4 ts r (subst P none h))

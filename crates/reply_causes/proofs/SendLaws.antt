@@ -1,14 +1,14 @@
 -- Every send has its cause.
-use Rattle.std.proofs.Common.{◌≡◌, ℕ, ◌==◌, ◌+◌, ◌*◌, ◌^◌, nat_lt, nat_le, Bool, true, false, not, ◌&&◌, ◌||◌, cond, List, [], ◌∷◌, ◌++◌, length, map, drop, Option, Some, None, Result, Ok, Err, IsTrue, refl, sym, ap, ◌∙◌, subst}
-use Rattle.std.specs.Prelude.{option_and_then, option_map, unwrap_or, is_none, pos, negsuc, IsSomeAnd}
+use Rattle.std.proofs.Common.{◌≡◌, ℕ, ◌==◌, ◌+◌, nat_lt, Bool, true, false, not, ◌&&◌, ◌||◌, cond, List, [], ◌∷◌, length, drop, Option, Some, None, Result, Ok, Err, IsTrue, refl, sym, ap, ◌∙◌, subst}
+use Rattle.std.specs.Prelude.{option_map, unwrap_or, is_none, pos, negsuc, IsSomeAnd}
 use Rattle.std.specs.List.{last_or}
 use Rattle.std.proofs.lemmas.List.{drop-map}
 use Rattle.argo_base.specs.declared.errno.Errno.{Errno}
 use Rattle.argo_base.specs.declared.errno.Errno.TheVariants.{Srch, Again, NoDev, Inval, MsgSize, ConnRefused}
-use Rattle.argo_base.specs.Layout.{u16_at, u32_at}
+use Rattle.argo_base.specs.Layout.{u32_at}
 use Rattle.argo_base.specs.Iovs.{Iov, is_bad_iov, judged, verdict_of}
 use Rattle.argo_base.specs.Limits.{longest_body}
-use Rattle.argo_base.specs.Notices.{noted, is_busy, size_of}
+use Rattle.argo_base.specs.Notices.{noted, is_busy}
 use Rattle.argo_base.specs.Slots.{fits, is_too_big}
 use Rattle.argo_model.specs.declared.scripts.Actor.{Actor}
 use Rattle.argo_model.specs.declared.scripts.Actor.TheVariants.{Vcpu}
@@ -21,20 +21,20 @@ use Rattle.argo_model.specs.declared.action.Outcome.TheVariants.{Done, Bytes, Fa
 use Rattle.argo_model.specs.declared.reply.Reply.{Reply}
 use Rattle.argo_model.specs.declared.reply.Reply.TheVariants.{Stored, Hex, Number, Signal, NoSignal, Msg, Empty, Bad, Fault, Gone as gone}
 use Rattle.argo_model.specs.Rules.State.{State, Domain, Live, Ring, domain_of, is_alive, is_on, change_domain, signal_all}
-use Rattle.argo_model.specs.Rules.Effects.{Change, Effect, leaving, refuse_if, lifted, set_left, with_life, change_in}
+use Rattle.argo_model.specs.Rules.Effects.{Change, leaving, refuse_if, lifted, set_left, with_life}
 use Rattle.argo_model.specs.Rules.RingBytes.{set_paged, free}
 use Rattle.argo_model.specs.Rules.Matches.{RingAt, match_at, paged_at}
-use Rattle.argo_model.specs.Rules.Deliver.{Offer, offer, accepted, deliver, with_notice, message_of, offer_to_domain}
+use Rattle.argo_model.specs.Rules.Deliver.{Offer, accepted, deliver, with_notice, message_of, offer_to_domain}
 use Rattle.argo_model.specs.Rules.Outcomes.{is_gone}
 use Rattle.argo_model.specs.Rules.Act.{act}
 use Rattle.argo_model.specs.Runs.Final.{accepted_size, is_accepted}
-use Rattle.argo_model.specs.Programs.Asks.{Rests, Say, unless_gone}
+use Rattle.argo_model.specs.Programs.Asks.{unless_gone}
 use Rattle.argo_model.specs.Programs.Program.{caller_of}
 use Rattle.argo_model.specs.Programs.Send.{say_accepted, send_load}
 use Rattle.argo_model.specs.Laws.Transitions.{Transition}
-use Rattle.argo_model.specs.Laws.RingNames.{RingName, name_of, has_name}
-use Rattle.argo_model.specs.Laws.Taken.{is_there_and, brought_by, offered_to}
-use Rattle.argo_model.specs.Laws.SendCauses.{Send, Looked, looked_by, address_of, receiver_of, met_in, ring_of, iovs_in, message_in, says, row, cause_at, cause_judged, cause_at_match, cause_of, reply_of_send, waits_on, waits_for_size, is_noted, BringsMessage, IfCount, SendHasCause}
+use Rattle.argo_model.specs.Laws.RingNames.{name_of, has_name}
+use Rattle.argo_model.specs.Laws.Taken.{brought_by, offered_to}
+use Rattle.argo_model.specs.Laws.SendCauses.{Send, Looked, looked_by, address_of, receiver_of, met_in, ring_of, iovs_in, message_in, says, row, cause_at, cause_judged, cause_at_match, cause_of, waits_on, WaitsForSize, IsNoted, BringsMessage, IfCount, SendHasCause}
 use Rattle.reply_causes.proofs.StepLaws.{Ends, Performs, Asked, By, asked, said, told, vanished, any_gone, befores, last-drop}
 use Rattle.reply_causes.proofs.DeliverLaws.{Settled, settled_refused, settled_if, settled_faulted, settled_body, offered, caused, change_at, offer_at, Delivery, Vanishes, Delivers, delivery, refusal_counts, IsOther}
 use Rattle.reply_causes.proofs.MetLaws.{met, met-after, noted-size}
@@ -91,7 +91,7 @@ judged_other n (v ∷ vs) e h = by (is_bad_iov v) (nat_lt longest_body (n + v.le
 -- the caller is noted on the ring that it met
 note_stands : (x : Send) (l : Looked) (s : State) (m : RingAt) (n : ℕ) → l.state ≡ s → match_at s (receiver_of l) (u32_at (address_of l) 8) x.caller ≡ Some m
     → verdict_of (iovs_in x l.list) ≡ Ok n
-    → IsTrue (is_noted x l (change_domain s (receiver_of l) (with_life (set_paged m.live m.key (with_notice x.caller n (paged_at m))))))
+    → IsNoted x l (change_domain s (receiver_of l) (with_life (set_paged m.live m.key (with_notice x.caller n (paged_at m)))))
 note_stands x l s m n at here verdict =
     let to = receiver_of l in
     let port = u32_at (address_of l) 8 in
@@ -105,10 +105,11 @@ note_stands x l s m n at here verdict =
     let named : has_name (name_of m) now ≡ true =
     both_hold ((to == m.owner) && (m.domain.generation == m.domain.generation)) _
     (both_hold (to == m.owner) _ owner (same-eqb m.domain.generation m.domain.generation refl)) (same-eqb m.ring.serial m.ring.serial refl) in
-    ap (λ o. is_there_and (λ m. waits_for_size x l after m (verdict_of (iovs_in x l.list))) o) found
-    ∙ ap (λ v. waits_for_size x l after m v) verdict
-    ∙ ap (λ o. is_there_and (waits_on (name_of m) x.caller n) o) again
-    ∙ both_hold (has_name (name_of m) now) _ named (noted-size m.ring.notices x.caller n)
+    let Met : Option RingAt → Type 0 = λ o. IsSomeAnd o (λ m. WaitsForSize x l after m (verdict_of (iovs_in x l.list))) in
+    let Judged : Result ℕ Errno → Type 0 = λ v. WaitsForSize x l after m v in
+    let Again : Option RingAt → Type 0 = λ o. IsSomeAnd o (λ now. IsTrue (waits_on (name_of m) x.caller n now)) in
+    subst Met (sym found) (subst Judged (sym verdict) (subst Again (sym again) (
+    both_hold (has_name (name_of m) now) _ named (noted-size m.ring.notices x.caller n))))
 
 -- the step brought the message, where it was accepted
 message_comes : (x : Send) (l : Looked) (t : Transition) (generation n : ℕ) (bs : List ℕ) (m : RingAt)
@@ -129,7 +130,7 @@ message_comes x l t generation n bs m actor action at here body size took =
           ap (λ o. cond (is_accepted (accepted_size o)) (offered_to (name_of m) t (caller_of t.actor) t.step.action) None) took
           ∙ ap (λ a. offered_to (name_of m) t (caller_of a) t.step.action) actor
           ∙ ap (λ a. offered_to (name_of m) t x.caller a) action
-          ∙ ap (λ o. cond (is_there_and (has_name (name_of m)) o) (Some (record { src = x.caller; port = u32_at (address_of l) 0; kind = x.a4; body = bs })) None) here
+          ∙ ap (λ o. cond (unwrap_or (option_map (has_name (name_of m)) o) false) (Some (record { src = x.caller; port = u32_at (address_of l) 0; kind = x.a4; body = bs })) None) here
           ∙ ap (λ b. cond b (Some (record { src = x.caller; port = u32_at (address_of l) 0; kind = x.a4; body = bs })) None) named
           ∙ ap (λ o. Some (record { src = x.caller; port = u32_at (address_of l) 0; kind = x.a4; body = unwrap_or o [] })) (sym body));
       size = ap (λ o. length (unwrap_or o [])) body ∙ size;
@@ -140,7 +141,7 @@ settled_match : (x : Send) (l : Looked) (t : Transition) (generation : ℕ) (loa
     → t.actor ≡ Vcpu x.caller generation
     → t.step.action ≡ Deliver (u32_at (address_of l) 0) (receiver_of l) (u32_at (address_of l) 8) x.a4 load
     → l.state ≡ t.before
-    → Settled (λ c. IsTrue (is_noted x l (signal_all (set_left t.before (receiver_of l) c.left) c.signals))) (λ k. t.step.outcome ≡ Accepted k → BringsMessage x l t k)
+    → Settled (λ c. (IsNoted x l (signal_all (set_left t.before (receiver_of l) c.left) c.signals))) (λ k. t.step.outcome ≡ Accepted k → BringsMessage x l t k)
     (change_at (receiver_of l) (record { sender = x.caller; port = u32_at (address_of l) 0; kind = x.a4; load = load }) (match_at t.before (receiver_of l) (u32_at (address_of l) 8) x.caller))
     (cause_at_match x l (match_at t.before (receiver_of l) (u32_at (address_of l) 8) x.caller))
 settled_match x l t generation load is actor action at = by (match_at t.before to to_port x.caller) refl is where
@@ -151,7 +152,7 @@ settled_match x l t generation load is actor action at = by (match_at t.before t
   to_port = u32_at (address_of l) 8
 
   N : Change Live → Type 0
-  N c = IsTrue (is_noted x l (signal_all (set_left t.before to c.left) c.signals))
+  N c = (IsNoted x l (signal_all (set_left t.before to c.left) c.signals))
 
   B : ℕ → Type 0
   B k = t.step.outcome ≡ Accepted k → BringsMessage x l t k
@@ -250,7 +251,7 @@ send_load-ends x generation load ts j r is g cause h = first (asked actor action
       let match = match_at t.before to to_port x.caller in
       let c : Change Live = refuse_if (not (is_alive t.before to)) Srch (refuse_if (not d.on) NoDev (offer_to_domain to to_port o (domain_of t.before to))) in
       let q = row (not (is_alive t.before to)) Srch (row (not d.on) NoDev (cause_at_match x l match)) in
-      let N : Change Live → Type 0 = λ c. IsTrue (is_noted x l (signal_all (set_left t.before to c.left) c.signals)) in
+      let N : Change Live → Type 0 = λ c. (IsNoted x l (signal_all (set_left t.before to c.left) c.signals)) in
       let B : ℕ → Type 0 = λ k. t.step.outcome ≡ Accepted k → BringsMessage x l t k in
       let C : Change Live → Type 0 = λ c. Settled N B c (cause_at_match x l match) in
       let last : last_or None ts ≡ Some t = last-drop None j ts t split in
@@ -264,8 +265,8 @@ send_load-ends x generation load ts j r is g cause h = first (asked actor action
       let same : q ≡ r = (told actor say_accepted c.outcome q [] r settled.tells (subst E came end)).1 in
       let stays : any_gone ts ≡ false = g ∙ ap any_gone split ∙ ap (λ o. is_gone o || false) came ∙ ap (λ b. b || false) settled.tells.stays in
       let left : t.after ≡ signal_all (set_left t.before to c.left) c.signals = does.after ∙ ap (λ e. e.state) effect in
-      let Noted : State → Type 0 = λ s. IsTrue (is_noted x l s) in
-      let OnLast : Option Transition → Type 0 = λ o. IsSomeAnd o (λ t. IsTrue (is_noted x l t.after)) in
+      let Noted : State → Type 0 = λ s. IsNoted x l s in
+      let OnLast : Option Transition → Type 0 = λ o. IsSomeAnd o (λ t. IsNoted x l t.after) in
       let Brings : ℕ → Option Transition → Type 0 = λ n o. IsSomeAnd o (λ t. BringsMessage x l t n) in
       let Counted : Reply → Type 0 = λ r. IfCount r (λ n. Brings n (last_or None ts)) in
       record {

@@ -1,7 +1,6 @@
 -- Laws of tables of causes: each part of a program agrees with its row.
-use Rattle.std.proofs.Common.{◌≡◌, ℕ, ◌+◌, Bool, true, false, ◌||◌, cond, List, [], ◌∷◌, ◌++◌, ◌==◌, length, drop, Option, Some, None, refl, sym, ap, ◌∙◌, subst}
-use Rattle.std.specs.Prelude.{unwrap_or, is_none, pos, option_and_then}
-use Rattle.std.specs.List.{last_or}
+use Rattle.std.proofs.Common.{◌≡◌, ℕ, ◌+◌, Bool, true, false, ◌||◌, cond, List, [], ◌∷◌, ◌==◌, length, drop, Option, Some, None, refl, sym, ap, ◌∙◌, subst}
+use Rattle.std.specs.Prelude.{unwrap_or, is_none}
 use Rattle.std.proofs.lemmas.List.{drop-map}
 use Rattle.std.proofs.Math.Seq.{drop-drop}
 use Rattle.argo_base.specs.declared.errno.Errno.{Errno}
@@ -15,17 +14,17 @@ use Rattle.argo_model.specs.declared.action.Action.TheVariants.{Rest}
 use Rattle.argo_model.specs.declared.action.Outcome.{Outcome}
 use Rattle.argo_model.specs.declared.action.Outcome.TheVariants.{Done, Bytes, Fault, Refused, Accepted, Swept, NoMore, Answer, Flag, Gone}
 use Rattle.argo_model.specs.declared.reply.Reply.{Reply}
-use Rattle.argo_model.specs.declared.reply.Reply.TheVariants.{Number, Gone as gone}
+use Rattle.argo_model.specs.declared.reply.Reply.TheVariants.{Gone as gone}
 use Rattle.argo_model.specs.Rules.State.{State, Domain, Live, domain_of}
 use Rattle.argo_model.specs.Rules.Act.{act, act_of, act_if_live, act_if_there}
 use Rattle.argo_model.specs.Rules.Effects.{Change, refuse_if}
 use Rattle.argo_model.specs.Rules.Outcomes.{is_gone}
-use Rattle.argo_model.specs.Programs.Asks.{Rests, Say, ask, fetch_all, refusal, refuse_if as refuses_if, refuse_at_once_if, read, say_done, unless_gone}
+use Rattle.argo_model.specs.Programs.Asks.{Rests, Say, ask, fetch_all, refuse_if as refuses_if, refuse_at_once_if, read, say_done, unless_gone}
 use Rattle.argo_model.specs.Programs.Recv.{say_if}
 use Rattle.argo_model.specs.Laws.Transitions.{Transition}
 use Rattle.argo_model.specs.Laws.SendCauses.{found, says, row}
 use Rattle.reply_causes.specs.Tables.{last_state, unless_lost, case, zero_reply}
-use Rattle.reply_causes.proofs.StepLaws.{Ends, Performs, Asked, By, asked, Tells, told, said, vanished, any_gone, befores, last-drop, Over, Lost as Vanished, Replied, always}
+use Rattle.reply_causes.proofs.StepLaws.{Ends, Asked, By, asked, Tells, told, said, vanished, any_gone, befores, last-drop, Over, Lost as Vanished, Replied, always}
 use Rattle.reply_causes.proofs.FetchLaws.{Fetched, Lost, Missed, Found, fetch_all-ends}
 
 -- a line that is over has its cause
@@ -92,8 +91,10 @@ act-over actor a f q n ts r closes answers h = first (asked actor a f (drop n ts
   first (By t later split does end) = by (answers t.before) where
     none : later ≡ []
     none = closes t.step.outcome later end
+
     at : last_state (befores ts) ≡ t.before
     at = ap (λ o. unwrap_or o []) (last-drop None n (befores ts) t.before (drop-map (λ (d : Transition). d.before) n ts ∙ ap befores (split ∙ ap (λ xs. t ∷ xs) none)))
+
     by : Answers f (act actor a t.before).outcome (q t.before) → Over (q (last_state (befores ts))) (drop n ts) r
     by (Vanishes is) =
         Vanished (ap any_gone split ∙ ap (λ o. is_gone o || any_gone later) (does.outcome ∙ is)) (vanished actor t.step.outcome f later r (does.outcome ∙ is) end).1
@@ -111,6 +112,7 @@ at_life s d generation a f q acts = by (domain_of s d) refl where
   life x here false l is = Vanishes refl
   life x here true None is = Vanishes refl
   life x here true (Some live) is = acts x live here is
+
   by : (o : Option Domain) → domain_of s d ≡ o → Answers f (act_if_there s d generation o a).outcome q
   by None here = Vanishes refl
   by (Some x) here = life x here (x.generation == generation) x.life refl
@@ -153,8 +155,8 @@ pub fetch-later : (d generation : ℕ) (ps : List Piece) (failed q : Reply) (k :
     → Over (case (is_none (found d ps (drop n (befores ts)))) failed q) (drop n ts) r
 fetch-later d generation ps failed q k n ts r h later =
     let P : List State → Type 0 = λ states. (Ends (Vcpu d generation) (k (unwrap_or (found d ps states) [])) (drop (n + length ps) ts) r → Over q (drop (n + length ps) ts) r)
-      → Over (case (is_none (found d ps states)) failed q) (drop n ts) r in
+    → Over (case (is_none (found d ps states)) failed q) (drop n ts) r in
     let Q : List Transition → Type 0 = λ xs. (Ends (Vcpu d generation) (k (unwrap_or (found d ps (befores (drop n ts))) [])) xs r → Over q xs r)
-      → Over (case (is_none (found d ps (befores (drop n ts)))) failed q) (drop n ts) r in
+    → Over (case (is_none (found d ps (befores (drop n ts)))) failed q) (drop n ts) r in
     subst P (sym (drop-map (λ (t : Transition). t.before) n ts)) (
     subst Q (drop-drop (length ps) n ts) (fetch-over d generation ps failed q k (drop n ts) r h)) later

@@ -1,11 +1,12 @@
 -- The table of each line.
-use Rattle.std.specs.Prelude.{◌≡◌, ℕ, ◌*◌, List}
+use Rattle.std.specs.Prelude.{◌≡◌, ℕ, ◌*◌, List, length}
 use Rattle.argo_base.specs.declared.errno.Errno.TheVariants.{OpNotSupp}
 use Rattle.argo_model.specs.declared.scripts.Actor.{Actor}
 use Rattle.argo_model.specs.declared.scripts.Actor.TheVariants.{Vcpu}
 use Rattle.argo_model.specs.declared.line.Line.{Line}
 use Rattle.argo_model.specs.declared.line.Line.TheVariants.{Store, Load, Op, Await, Recv, Destroy, Reset, Create}
 use Rattle.argo_model.specs.declared.reply.Reply.{Reply}
+use Rattle.argo_model.specs.declared.reply.Reply.TheVariants.{NoSignal}
 use Rattle.argo_model.specs.Rules.State.{State}
 use Rattle.argo_model.specs.Programs.Program.{Command, RegisterRing, UnregisterRing, SendV, Notify, Unknown, command_of, program, caller_of}
 use Rattle.argo_model.specs.Laws.Transitions.{Transition}
@@ -67,6 +68,12 @@ LoadsHaveCauses = (d generation at n : ℕ) → HasCauses (Vcpu d generation) (L
 
 abbrev pub AwaitsHaveCauses : Type 0
 AwaitsHaveCauses = (d generation turns : ℕ) → HasCauses (Vcpu d generation) (Await turns)
+
+-- one without a signal has looked as often as it may
+abbrev pub AwaitsLookTurns : Type 0
+AwaitsLookTurns =
+    (d generation turns : ℕ) (ts : List Transition)
+    → PlaysTo (Vcpu d generation) (program (Vcpu d generation) (Await turns)) ts NoSignal → length ts ≡ turns
 
 -- of a hypercall with a command
 abbrev pub OpsHaveCauses : ℕ → Type 0

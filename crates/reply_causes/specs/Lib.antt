@@ -1,9 +1,11 @@
 pub mod Causes
 pub mod ControlCauses
+pub mod Examples
 pub mod MemoryCauses
 pub mod NotifyCauses
 pub mod Plays
 pub mod RecvCauses
 pub mod RegisterCauses
+pub mod Runs
 pub mod Sends
 pub mod Tables

@@ -1,13 +1,14 @@
-//! Why each line of a script has its reply: of what its steps looked at, the first cause that holds. Each law is for any states in
-//! which the steps are made, and so for every run.
+//! Why each line of a script has its reply: of what its steps looked at, the first cause in the table of its call that holds. Each law
+//! is for any states in which the steps are made, and so for every run.
 //!
 //! The layer above uses one contract: `replies_have_causes`, the laws over every script and schedule. It stands on argo_model.
 #![tactic(auto)]
 
-ghost use Rattle.reply_causes.specs.Sends.{SendsHaveCauses};
+mod calls;
+pub mod examples;
+mod lines;
+mod runs;
 
-/// A send has the reply of the first cause that holds. After -11 its notice stands, and a count says that its message was brought.
-#[tactic(none)]
-pub fn sendv()
-    ensures { SendsHaveCauses }
-{}
+pub use calls::{notify, register_ring, sendv, unknown_command, unregister_ring};
+pub use lines::{await_flag, create, destroy, load, recv, reset, store};
+pub use runs::replies_have_causes;

@@ -20,7 +20,7 @@ use Rattle.argo_model.specs.Rules.Matches.{RingAt, match_at, paged_at}
 use Rattle.argo_model.specs.Programs.Send.{is_send_addr, is_own_source}
 use Rattle.argo_model.specs.Rules.Outcomes.{is_gone}
 use Rattle.argo_model.specs.Laws.Transitions.{Transition}
-use Rattle.argo_model.specs.Laws.RingNames.{RingName, name_of, has_name, is_there_and}
+use Rattle.argo_model.specs.Laws.RingNames.{RingName, name_of, has_name}
 use Rattle.argo_model.specs.Laws.Taken.{brought_by}
 
 -- the arguments of a send: of the addresses, of the iovs and their count, and the type of the message
@@ -151,13 +151,13 @@ waits_on name d n m = has_name name m && unwrap_or (option_map (nat_le n) (size_
 
 -- the verdict on a send's iovs was a size, and in the state after the delivery the caller waits for room for that size or more, on
 -- the ring that it met there and still meets
-abbrev pub waits_for_size : Send → Looked → State → RingAt → Result ℕ Errno → Bool
-waits_for_size x l after m (Err e) = false
-waits_for_size x l after m (Ok n) = is_there_and (waits_on (name_of m) x.caller n) (met_in x l after)
+abbrev pub WaitsForSize : Send → Looked → State → RingAt → Result ℕ Errno → Type 0
+WaitsForSize x l after m (Err e) = ⊥
+WaitsForSize x l after m (Ok n) = IsSomeAnd (met_in x l after) (λ now. IsTrue (waits_on (name_of m) x.caller n now))
 
 -- after the delivery the caller's notice stands on the ring that it met, with no smaller size than the body's
-abbrev pub is_noted : Send → Looked → State → Bool
-is_noted x l after = is_there_and (λ m. waits_for_size x l after m (verdict_of (iovs_in x l.list))) (ring_of x l)
+abbrev pub IsNoted : Send → Looked → State → Type 0
+IsNoted x l after = IsSomeAnd (ring_of x l) (λ m. WaitsForSize x l after m (verdict_of (iovs_in x l.list)))
 
 -- the step brought the message of the send, with a body of n bytes, into the ring that the send met
 pub record BringsMessage (x : Send) (l : Looked) (t : Transition) (n : ℕ) : Type 0 where
@@ -173,5 +173,5 @@ IfCount r P = Unit {0}
 -- and a count says that the last step brought the message, of that many bytes
 pub record SendHasCause (x : Send) (transitions : List Transition) (r : Reply) : Type 0 where
   pub reply : r ≡ reply_of_send x transitions
-  pub noted : r ≡ says Again → IsSomeAnd (last_or None transitions) (λ t. IsTrue (is_noted x (looked_by x transitions) t.after))
+  pub noted : r ≡ says Again → IsSomeAnd (last_or None transitions) (λ t. IsNoted x (looked_by x transitions) t.after)
   pub brought : IfCount r (λ n. IsSomeAnd (last_or None transitions) (λ t. BringsMessage x (looked_by x transitions) t n))
