@@ -91,8 +91,9 @@ impl Ring {
         ensures left { (serial : ℕ) → paged serial self.new ≡ deliver.with_message (paged serial self.old) message }
         ensures id { self.new.id ≡ self.old.id }
     {
-        let tx = slots::advance(self.len, self.tx, message.body.len() as u32);
-        write_message(&mut self.row, self.len, self.tx, &message);
+        let at = self.tx;
+        let tx = slots::advance(self.len, at, message.body.len() as u32);
+        write_message(&mut self.row, self.len, at, &message);
         write_tx(&mut self.row, tx);
         self.tx = tx;
         if !self.clean {
