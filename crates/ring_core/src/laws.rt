@@ -11,7 +11,8 @@ ghost use Rattle.ring_core.specs.Flat.{flat, ArePages, with_pages};
 /// It does nothing.
 pub fn rows_lie_in_flat_memory()
     ensures read { (page : ℕ → List ℕ) (k : ℕ) (row : List (ℕ × List ℕ)) → ArePages page k
-        → All (λ p. (p.0 < k) × (page p.0 ≡ p.1)) row → ring_bytes (flat page k) (numbers_of row) ≡ row_bytes row }
+        → All (λ p. (p.0 < k) × (page p.0 ≡ p.1)) row
+        → ring_bytes (flat page k) (numbers_of row) ≡ row_bytes row }
     ensures written { (page : ℕ → List ℕ) (k : ℕ) (row : List (ℕ × List ℕ)) → ArePages page k
         → All (λ p. (p.0 < k) × (length p.1 ≡ page_bytes)) row
         → laid (numbers_of row) (row_bytes row) (flat page k) ≡ flat (with_pages page row) k }
