@@ -1,6 +1,6 @@
 -- A clean ring's bytes hold its untaken messages, from its start on, through each message that is accepted and each put that leaves
 -- it clean.
-use Rattle.std.proofs.Common.{◌≡◌, ℕ, ◌+◌, ◌-◌, ◌%◌, ◌<◌, ◌≤◌, ◌^◌, Bool, true, false, ◌&&◌, ◌==◌, if◌then◌else◌, List, [], ◌∷◌, ◌++◌, length, take, drop, Option, Some, None, ◌⊎◌, inl, inr, ⊎_elim, refl, sym, ap, ◌∙◌, subst, arith, length-take, length-drop}
+use Rattle.std.proofs.Common.{◌≡◌, ℕ, ◌+◌, ◌-◌, ◌%◌, ◌<◌, ◌≤◌, Bool, true, false, ◌==◌, if◌then◌else◌, List, [], ◌∷◌, ◌++◌, length, take, drop, Some, ◌⊎◌, inl, inr, ⊎_elim, refl, sym, ap, ◌∙◌, subst, arith, length-take, length-drop}
 use Rattle.std.specs.Prelude.{IsTrue, IsFalse}
 use Rattle.std.proofs.lemmas.List.{length-take-le, nil_from_length}
 use Rattle.std.proofs.lemmas.List.Sums.{sum_by-cons, sum_by-take-le}
@@ -9,7 +9,7 @@ use Rattle.std.proofs.lemmas.Bool.Decides.{nat_tests}
 use Rattle.argo_base.specs.declared.message.Message.{Message}
 use Rattle.argo_base.specs.Layout.{u32_at, u32_bytes}
 use Rattle.argo_base.specs.Rounds.{written_round}
-use Rattle.argo_base.specs.Slots.{is_legal, is_place, place_after, sanitised, span, fits}
+use Rattle.argo_base.specs.Slots.{is_place, place_after, sanitised, span, fits}
 use Rattle.argo_base.specs.Splice.{splice}
 use Rattle.argo_base.proofs.SlotLaws.{IsPlace, place, is_place_from, place_after_place, room_even, sanitised_place, fits_below}
 use Rattle.argo_base.proofs.SpliceLaws.{splice-nil, take-splice_before, drop-splice_after, length-splice}

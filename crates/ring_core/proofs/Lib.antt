@@ -1,4 +1,5 @@
 pub mod CleanLaws
+pub mod FlatLaws
 pub mod HoldLaws
 pub mod MoveLaws
 pub mod NoticeLaws

@@ -1,5 +1,5 @@
 -- Laws of proper moves: which value of the rx word takes how many messages.
-use Rattle.std.proofs.Common.{◌≡◌, ◌≢◌, ℕ, zero, suc, ◌+◌, ◌<◌, ◌≤◌, Bool, true, false, cond, eqb, ◌==◌, if◌then◌else◌, List, length, take, get_or, sum_by, Some, None, refl, sym, ap, ◌∙◌, subst, arith, find}
+use Rattle.std.proofs.Common.{◌≡◌, ℕ, zero, suc, ◌+◌, ◌<◌, ◌≤◌, Bool, true, false, cond, eqb, ◌==◌, if◌then◌else◌, List, length, take, get_or, sum_by, Some, None, refl, sym, ap, ◌∙◌, subst, arith, find}
 use Rattle.std.specs.List.{range_with_len}
 use Rattle.std.proofs.lemmas.List.Sums.{sum_by_more}
 use Rattle.argo_base.specs.declared.message.Message.{Message}

@@ -39,6 +39,14 @@ paged serial h =
       own = row_bytes h.row;
     }
 
+-- a ring after another is what an act of the rules leaves of that one, under whatever serial
+abbrev pub Becomes : Held → Held → (PagedRing → PagedRing) → Type 0
+Becomes old new act = (serial : ℕ) → paged serial new ≡ act (paged serial old)
+
+-- an answer is what the rules say of a ring, under whatever serial
+abbrev pub IsSaid : {X : Type 0} → Held → X → (PagedRing → X) → Type 0
+IsSaid {X} h answer rule = (serial : ℕ) → answer ≡ rule (paged serial h)
+
 -- a legal length, the pages for it, a place for the next message, notices that can fit, and untaken messages that a clean ring
 -- holds and a dirty one has none of. That the page numbers differ is kept by the row, and that there are at most 32 notices, of
 -- different domains, by the notices

@@ -1,4 +1,5 @@
 pub mod Clean
+pub mod Flat
 pub mod Held
 pub mod Offers
 pub mod Puts

@@ -5,7 +5,7 @@ use Rattle.argo_model.specs.Rules.RingBytes.{PagedRing}
 use Rattle.argo_model.specs.Rules.Starts.{started}
 use Rattle.guest_pages.specs.Pages.{row_of, with_row}
 use Rattle.guest_pages.specs.Rows.{numbers_of, row_bytes}
-use Rattle.ring_core.specs.Held.{Held, paged}
+use Rattle.ring_core.specs.Held.{Held}
 
 -- a new ring of this length on these pages
 abbrev pub ring_on : ℕ → ℕ → List (ℕ × List ℕ) → PagedRing
@@ -15,7 +15,10 @@ ring_on serial len row = started (record { ring = new_ring serial len (numbers_o
 abbrev pub given_back : List (Option (List ℕ)) → Held → List (Option (List ℕ))
 given_back private h = with_row private h.row
 
--- the ring that starts with this length on these pages of its owner, with the notices that can still fit
-abbrev pub restarted : ℕ → Held → ℕ → List (Option (List ℕ)) → List ℕ → PagedRing
-restarted serial h len private numbers =
-    started (record { ring = resized (paged serial h).ring len numbers; own = row_bytes (row_of private numbers) })
+-- the bytes of the pages that the owner lends out of these, in this order
+abbrev pub lent_bytes : List (Option (List ℕ)) → List ℕ → List ℕ
+lent_bytes private numbers = row_bytes (row_of private numbers)
+
+-- the ring starts with this length on pages of these numbers and bytes, with the notices that can still fit
+abbrev pub restarted : ℕ → List ℕ → List ℕ → PagedRing → PagedRing
+restarted len numbers own p = started (record { ring = resized p.ring len numbers; own = own })

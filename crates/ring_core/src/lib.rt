@@ -6,6 +6,7 @@
 #![tactic(auto)]
 
 mod accept;
+mod laws;
 mod log;
 mod offers;
 mod puts;
@@ -13,8 +14,11 @@ mod restarts;
 mod ring;
 mod spelling;
 mod start;
+#[cfg(test)]
+mod tests;
 mod waiting;
 mod writes;
 
 pub use accept::{Accept, Offer};
+pub use laws::rows_lie_in_flat_memory;
 pub use ring::Ring;

@@ -1,13 +1,11 @@
 //! A message that is offered to a ring.
-ghost use Rattle.std.specs.Prelude.{◌≡◌, ℕ, ◌≤◌, ◌&&◌, not, IsTrue, None, length};
+ghost use Rattle.std.specs.Prelude.{◌≡◌, ℕ, ◌≤◌, IsTrue, None, length};
 ghost use Rattle.argo_base.specs.Limits.{longest_body};
-ghost use Rattle.argo_base.specs.Slots.{fits, is_too_big};
 ghost use Rattle.argo_model.specs.Rules.Deliver as deliver;
 ghost use Rattle.argo_model.specs.Rules.Effects.{after};
 ghost use Rattle.argo_model.specs.Rules.Fit.{is_fit_load};
-ghost use Rattle.argo_model.specs.Rules.RingBytes.{free};
-ghost use Rattle.ring_core.specs.Held.{paged};
-ghost use Rattle.ring_core.specs.Offers.{outcome_of, refusal_of, refusal_in, turned_away};
+ghost use Rattle.ring_core.specs.Held.{paged, Becomes, IsSaid};
+ghost use Rattle.ring_core.specs.Offers.{outcome_of, refusal_of, refusal_in, has_room_for, turned_away};
 
 use crate::accept::{Accept, Offer};
 use crate::ring::Ring;
@@ -23,10 +21,11 @@ impl Ring {
     pub fn accept(&mut self, offer: Offer) -> Accept
         requires reserved { IsTrue self.old.has_room }
         requires short { IsTrue (is_fit_load offer.load) }
-        ensures outcome { (serial owner : ℕ) → outcome_of result ≡ (deliver.offer (paged serial self.old) owner offer).outcome }
+        ensures outcome { (owner : ℕ) →
+            IsSaid self.old (outcome_of result) (λ p. (deliver.offer p owner offer).outcome) }
         ensures refusal { refusal_of result ≡ refusal_in offer.load }
-        ensures left { (serial owner : ℕ) →
-            paged serial self.new ≡ after (paged serial self.old) (deliver.offer (paged serial self.old) owner offer) }
+        ensures left { (owner : ℕ) →
+            Becomes self.old self.new (λ p. after p (deliver.offer p owner offer)) }
         ensures id { self.new.id ≡ self.old.id }
     {
         let Offer {
@@ -61,17 +60,16 @@ impl Ring {
 
     // Whether a body of `size` bytes can fit, and does now.
     fn has_room(&self, size: u32) -> bool
-        ensures { result ≡ (not (is_too_big self.now.len size) && fits (free (paged 0 self.now)) size) }
+        ensures { result ≡ has_room_for (paged 0 self.now) size }
     {
         !slots::too_big(self.len, size) && slots::fits_into(self.free(), size)
     }
 
     // Refuses a body that does not fit: ever, or now, and then the sender is noted.
     fn turn_away(&mut self, sender: DomId, size: u32) -> Accept
-        ensures outcome { (serial : ℕ) → outcome_of result ≡ (turned_away (paged serial self.old) sender size).outcome }
+        ensures outcome { IsSaid self.old (outcome_of result) (λ p. (turned_away p sender size).outcome) }
         ensures refusal { refusal_of result ≡ None }
-        ensures left { (serial : ℕ) →
-            paged serial self.new ≡ after (paged serial self.old) (turned_away (paged serial self.old) sender size) }
+        ensures left { Becomes self.old self.new (λ p. after p (turned_away p sender size)) }
         ensures id { self.new.id ≡ self.old.id }
     {
         if slots::too_big(self.len, size) {
@@ -86,13 +84,14 @@ impl Ring {
     // Takes a message in: its bytes into the slots, and it into the untaken messages where the ring is clean.
     fn take_in(&mut self, message: Message)
         requires reserved { IsTrue self.old.has_room }
-        requires room { IsTrue (not (is_too_big self.old.len (length message.body)) && fits (free (paged 0 self.old)) (length message.body)) }
+        requires room { IsTrue (has_room_for (paged 0 self.old) (length message.body)) }
         requires short { length message.body ≤ longest_body }
-        ensures left { (serial : ℕ) → paged serial self.new ≡ deliver.with_message (paged serial self.old) message }
+        ensures left { Becomes self.old self.new (λ p. deliver.with_message p message) }
         ensures id { self.new.id ≡ self.old.id }
     {
-        let tx = slots::advance(self.len, self.tx, message.body.len() as u32);
-        write_message(&mut self.row, self.len, self.tx, &message);
+        let at = self.tx;
+        let tx = slots::advance(self.len, at, message.body.len() as u32);
+        write_message(&mut self.row, self.len, at, &message);
         write_tx(&mut self.row, tx);
         self.tx = tx;
         if !self.clean {

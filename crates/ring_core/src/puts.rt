@@ -37,8 +37,8 @@ pub(crate) fn moves(
     bytes: &[u8],
 ) -> Option<usize>
     requires { 0 < len }
-    ensures is { result
-        ≡ (if (at == 0) && (length bytes.now == 4) then taken_by len rx untaken.now.items (u32_at bytes.now 0) else None) }
+    ensures is { result ≡ (if (at == 0) && (length bytes.now == 4)
+        then taken_by len rx untaken.now.items (u32_at bytes.now 0) else None) }
     ensures few { IfSome result (λ k. k ≤ length untaken.now.items) }
 {
     if at == 0 && bytes.len() == 4 {

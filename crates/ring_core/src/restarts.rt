@@ -1,10 +1,10 @@
 //! A ring that is registered anew: with another length, on other pages of its owner.
-ghost use Rattle.std.specs.Prelude.{◌≡◌, ℕ, filter, length, IsTrue, IsFalse, Err, IfOk, OnOk, OnErr};
+ghost use Rattle.std.specs.Prelude.{◌≡◌, filter, length, IsTrue, IsFalse, Err, IfOk, OnOk, OnErr};
 ghost use Rattle.argo_base.specs.Notices.{never_fits, doms_of};
 ghost use Rattle.argo_base.specs.Slots.{is_legal, page_count};
 ghost use Rattle.guest_pages.specs.Pages.{can_lend, row_of, with_row, without};
-ghost use Rattle.ring_core.specs.Held.{paged, Keeps};
-ghost use Rattle.ring_core.specs.Restarts.{given_back, restarted};
+ghost use Rattle.ring_core.specs.Held.{Becomes, Keeps};
+ghost use Rattle.ring_core.specs.Restarts.{given_back, lent_bytes, restarted};
 
 use crate::ring::Ring;
 use crate::start::Start;
@@ -24,12 +24,16 @@ impl Ring {
     ) -> Result<Ended, LendFault>
         requires legal { IsTrue (is_legal len) }
         requires counted { length numbers.now ≡ page_count len }
-        ensures ended { IfOk result (λ doms. doms ≡ doms_of (filter (never_fits len) self.old.notices)) }
-        ensures left { OnOk result ((serial : ℕ) →
-            paged serial self.new ≡ restarted serial self.old len (given_back private.old self.old) numbers.now) }
-        ensures lent { OnOk result (private.new ≡ without (given_back private.old self.old) numbers.now) }
-        ensures could { OnOk result (IsTrue (can_lend (given_back private.old self.old) numbers.now)) }
-        ensures pages { result ≡ Err LendFault.Pages → IsFalse (can_lend (given_back private.old self.old) numbers.now) }
+        ensures ended { IfOk result
+            (λ doms. doms ≡ doms_of (filter (never_fits len) self.old.notices)) }
+        ensures left { OnOk result (Becomes self.old self.new
+            (restarted len numbers.now (lent_bytes (given_back private.old self.old) numbers.now))) }
+        ensures lent { OnOk result
+            (private.new ≡ without (given_back private.old self.old) numbers.now) }
+        ensures could { OnOk result
+            (IsTrue (can_lend (given_back private.old self.old) numbers.now)) }
+        ensures pages { result ≡ Err LendFault.Pages
+            → IsFalse (can_lend (given_back private.old self.old) numbers.now) }
         ensures err { OnErr result (self.new ≡ self.old) }
         ensures err_private { OnErr result (private.new ≡ private.old) }
         ensures keeps { Keeps self.old self.new }
@@ -49,7 +53,8 @@ fn exchange(row: &mut PageRow, private: &mut Private, numbers: &[u64]) -> Result
     ensures row { OnOk result (row.new ≡ row_of (with_row private.old row.old) numbers.now) }
     ensures lent { OnOk result (private.new ≡ without (with_row private.old row.old) numbers.now) }
     ensures could { OnOk result (IsTrue (can_lend (with_row private.old row.old) numbers.now)) }
-    ensures pages { result ≡ Err LendFault.Pages → IsFalse (can_lend (with_row private.old row.old) numbers.now) }
+    ensures pages { result ≡ Err LendFault.Pages
+        → IsFalse (can_lend (with_row private.old row.old) numbers.now) }
     ensures err { OnErr result (row.new ≡ row.old) }
     ensures err_private { OnErr result (private.new ≡ private.old) }
 {

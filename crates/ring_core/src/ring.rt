@@ -2,7 +2,7 @@
 ghost use Rattle.std.specs.Prelude.{◌≡◌, ℕ, length, IsTrue, IsFalse, OnOk, OnErr};
 ghost use Rattle.argo_base.specs.Slots.{is_legal, page_count};
 ghost use Rattle.argo_model.specs.Rules.RingBytes as bytes;
-ghost use Rattle.ring_core.specs.Held.{paged};
+ghost use Rattle.ring_core.specs.Held.{paged, IsRing};
 ghost use Rattle.ring_core.specs.Restarts.{ring_on};
 
 use crate::log::Log;
@@ -119,9 +119,10 @@ impl Ring {
         self.id
     }
 
-    /// The slot bytes.
+    /// The slot bytes. Whoever asks learns what always holds of a ring.
     pub fn len(&self) -> u32
-        ensures { result ≡ self.now.len }
+        ensures value { result ≡ self.now.len }
+        ensures ring { IsRing self.now }
     {
         self.len
     }

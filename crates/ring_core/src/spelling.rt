@@ -35,8 +35,8 @@ pub(crate) fn write_message(row: &mut PageRow, len: u32, at: u32, message: &Mess
 // The header of a message.
 fn head_of(message: &Message) -> [u8; 16]
     requires { length message.now.body ≤ longest_body }
-    ensures { result
-        ≡ message_head_bytes (length message.now.body + 16) (addr_bytes message.now.port message.now.src 0) message.now.kind }
+    ensures { result ≡ message_head_bytes (length message.now.body + 16)
+        (addr_bytes message.now.port message.now.src 0) message.now.kind }
 {
     put_message_head(&MessageHead {
         len: message.body.len() as u32 + 16,

@@ -23,11 +23,14 @@ impl Start {
     pub(crate) fn on(row: &mut PageRow, len: u32) -> Start
         requires legal { IsTrue (is_legal len) }
         requires pages { length row.old ≡ page_count len }
-        ensures tx { result.tx ≡ start_place len (bytes.rx_word (row_bytes row.old)) (bytes.tx_word (row_bytes row.old)) }
-        ensures clean { result.clean ≡ starts_clean len (bytes.rx_word (row_bytes row.old)) (bytes.tx_word (row_bytes row.old)) }
+        ensures tx { result.tx
+            ≡ start_place len (bytes.rx_word (row_bytes row.old)) (bytes.tx_word (row_bytes row.old)) }
+        ensures clean { result.clean
+            ≡ starts_clean len (bytes.rx_word (row_bytes row.old)) (bytes.tx_word (row_bytes row.old)) }
         ensures numbers { numbers_of row.new ≡ numbers_of row.old }
         ensures bytes { row_bytes row.new ≡
-            (if is_place len (bytes.tx_word (row_bytes row.old)) then row_bytes row.old else bytes.write_tx result.tx (row_bytes row.old)) }
+            (if is_place len (bytes.tx_word (row_bytes row.old)) then row_bytes row.old
+            else bytes.write_tx result.tx (row_bytes row.old)) }
         ensures whole { All (λ p. length p.1 ≡ page_bytes) row.old }
     {
         let has_pages = row.count() == page_count(len) as usize;

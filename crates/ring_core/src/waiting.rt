@@ -1,12 +1,12 @@
 //! The senders that wait for room in a ring.
-ghost use Rattle.std.specs.Prelude.{◌≡◌, ℕ, is_some};
+ghost use Rattle.std.specs.Prelude.{◌≡◌, is_some};
 ghost use Rattle.argo_base.specs.Match.{key_in};
 ghost use Rattle.argo_base.specs.Notices.{size_of, withdrawn};
 ghost use Rattle.argo_model.specs.Rules.Effects.{after};
 ghost use Rattle.argo_model.specs.Rules.Query as query;
 ghost use Rattle.argo_model.specs.Rules.RingBytes.{with_notices, is_empty};
 ghost use Rattle.argo_model.specs.Rules.Sweep.{sweep_ring};
-ghost use Rattle.ring_core.specs.Held.{paged, Keeps};
+ghost use Rattle.ring_core.specs.Held.{paged, Becomes, IsSaid, Keeps};
 
 use crate::ring::Ring;
 use argo_base::{DomId, Ended, slots};
@@ -29,8 +29,8 @@ const BUSY: u16 = 32;
 impl Ring {
     /// Ends exactly the notices that fit, and gives their domains, which are to be signalled. It takes no memory.
     pub fn sweep(&mut self) -> Ended
-        ensures signals { (serial : ℕ) → result ≡ (sweep_ring (paged serial self.old)).signals }
-        ensures left { (serial : ℕ) → paged serial self.new ≡ after (paged serial self.old) (sweep_ring (paged serial self.old)) }
+        ensures signals { IsSaid self.old result (λ p. (sweep_ring p).signals) }
+        ensures left { Becomes self.old self.new (λ p. after p (sweep_ring p)) }
         ensures keeps { Keeps self.old self.new }
     {
         let free = self.free();
@@ -40,9 +40,9 @@ impl Ring {
     /// Answers a sender that asks for room for a body of `need` bytes: its notice is withdrawn where they fit, and set or raised
     /// where it is to wait. It takes no memory.
     pub fn query(&mut self, dom: DomId, need: u32) -> Answer
-        ensures answer { (serial : ℕ) → result ≡ query.answer_of (paged serial self.old) (key_in self.old.id) dom need }
-        ensures left { (serial : ℕ) → paged serial self.new
-            ≡ after (paged serial self.old) (query.query_ring (paged serial self.old) (key_in self.old.id) dom need) }
+        ensures answer { IsSaid self.old result (λ p. query.answer_of p (key_in self.old.id) dom need) }
+        ensures left { Becomes self.old self.new
+            (λ p. after p (query.query_ring p (key_in self.old.id) dom need)) }
         ensures keeps { Keeps self.old self.new }
     {
         let flags = self.standing();
@@ -58,8 +58,7 @@ impl Ring {
     /// Takes away the notice of a domain that is gone. It tells whether there was one.
     pub fn forget(&mut self, dom: DomId) -> bool
         ensures stood { result ≡ is_some (size_of self.old.notices dom) }
-        ensures left { (serial : ℕ) →
-            paged serial self.new ≡ with_notices (paged serial self.old) (withdrawn self.old.notices dom) }
+        ensures left { Becomes self.old self.new (λ p. with_notices p (withdrawn p.ring.notices dom)) }
         ensures keeps { Keeps self.old self.new }
     {
         self.notices.forget(dom)
@@ -84,8 +83,7 @@ impl Ring {
     // Asks for room for a body of `need` bytes: the flag that tells what came of it.
     fn request(&mut self, dom: DomId, need: u32) -> u16
         ensures flag { result ≡ (query.request (paged 0 self.old) dom need).flag }
-        ensures left { (serial : ℕ) → paged serial self.new
-            ≡ with_notices (paged serial self.old) (query.request (paged serial self.old) dom need).notices }
+        ensures left { Becomes self.old self.new (λ p. with_notices p (query.request p dom need).notices) }
         ensures keeps { Keeps self.old self.new }
     {
         if slots::too_big(self.len, need) {

@@ -1,10 +1,10 @@
 //! Puts into the pages of a ring, and reads of them.
-ghost use Rattle.std.specs.Prelude.{◌≡◌, ℕ, ◌+◌, ◌*◌, ◌%◌, ◌<◌, ◌≤◌, length, take, drop};
+ghost use Rattle.std.specs.Prelude.{◌≡◌, ◌+◌, ◌*◌, ◌%◌, ◌<◌, ◌≤◌, length, take, drop};
 ghost use Rattle.argo_base.specs.Limits.{page_bytes};
 ghost use Rattle.argo_base.specs.Slots.{page_count};
 ghost use Rattle.argo_base.specs.Splice.{splice};
 ghost use Rattle.guest_pages.specs.Rows.{numbers_of, row_bytes};
-ghost use Rattle.ring_core.specs.Held.{paged, Keeps};
+ghost use Rattle.ring_core.specs.Held.{Becomes, Keeps};
 ghost use Rattle.ring_core.specs.Puts.{put_in};
 
 use crate::puts::{keep, moves, touches};
@@ -19,7 +19,7 @@ impl Ring {
     pub fn write(&mut self, at: u32, bytes: &[u8])
         requires inside { at < page_bytes * page_count self.old.len }
         requires in_page { at % page_bytes + length bytes.now ≤ page_bytes }
-        ensures left { (serial : ℕ) → paged serial self.new ≡ put_in (paged serial self.old) at bytes.now }
+        ensures left { Becomes self.old self.new (λ p. put_in p at bytes.now) }
         ensures keeps { Keeps self.old self.new }
     {
         if !self.clean {

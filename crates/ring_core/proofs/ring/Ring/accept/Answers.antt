@@ -8,7 +8,7 @@ use Rattle.ring_core.proofs.OfferLaws.{accepted_left}
 use Rattle.ring_core.proofs.ring.Ring.accept.Goals as goal
 
 pub returns-else-not-has_room-2-clause-left : goal.returns-else-not-has_room-2-clause-left
-returns-else-not-has_room-2-clause-left c = λ serial owner.
+returns-else-not-has_room-2-clause-left c = λ owner serial.
     let h = c.args.self.now in
     let p = paged serial h in
     let body = c.in-Body.body in

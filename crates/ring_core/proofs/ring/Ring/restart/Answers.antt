@@ -8,7 +8,7 @@ use Rattle.guest_pages.specs.Pages.{row_of, with_row}
 use Rattle.guest_pages.specs.Rows.{row_bytes, numbers_of}
 use Rattle.ring_space.proofs.RunLaws.{count_stays}
 use Rattle.ring_core.specs.Held.{Held, paged}
-use Rattle.ring_core.specs.Restarts.{given_back, restarted}
+use Rattle.ring_core.specs.Restarts.{given_back, lent_bytes, restarted}
 use Rattle.ring_core.proofs.NoticeLaws.{all_left}
 use Rattle.ring_core.proofs.RingLaws.{start_leaves_clean, start_leaves_place, start_bytes, numbers_of-row_of, length-row_of, made, same_made}
 use Rattle.ring_core.proofs.ring.Ring.restart.Goals as goal
@@ -45,7 +45,7 @@ returns-clause-left c = λ serial.
     let is : row ≡ lent = c.in_ok-exchange.ensures.row in
     subst (λ (h : Held).
     made serial len (numbers_of new) c.on-start.result.tx c.on-start.result.clean c.clear.new.self.messages c.take_too_big.new.self (row_bytes new)
-    ≡ restarted serial h len (given_back c.args.private.now h) numbers) c.self.view_is
+    ≡ restarted len numbers (lent_bytes (given_back c.args.private.now h) numbers) (paged serial h)) c.self.view_is
     (same_made serial len
     (e.numbers ∙ ap numbers_of is ∙ numbers_of-row_of (with_row c.args.private.now r.row) numbers) e.tx e.clean
     c.clear.ensures.messages c.take_too_big.ensures.left (start_bytes len c.on-start.result.tx (row_bytes row) (row_bytes new) e.tx e.bytes)

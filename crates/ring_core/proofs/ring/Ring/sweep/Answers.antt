@@ -1,5 +1,4 @@
 use Rattle.std.proofs.Common.{IsTrue, sym, subst}
-use Rattle.std.specs.Prelude.{ℕ, List}
 use Rattle.std.specs.List.{list_all}
 use Rattle.argo_model.specs.Rules.Register.{can_fit}
 use Rattle.ring_core.proofs.NoticeLaws.{all_filter}

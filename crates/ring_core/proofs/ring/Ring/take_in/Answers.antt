@@ -1,8 +1,8 @@
-use Rattle.std.proofs.Common.{◌≡◌, ◌&&◌, ◌++◌, ◌∷◌, [], ◌≤◌, if◌then◌else◌, not, IsTrue, length, refl, sym, ap, ◌∙◌, subst, arith}
+use Rattle.std.proofs.Common.{◌≡◌, ◌&&◌, ◌++◌, ◌∷◌, [], if◌then◌else◌, not, IsTrue, length, refl, sym, ap, ◌∙◌, subst, arith}
 use Rattle.std.proofs.lemmas.Bool.{false≢true}
 use Rattle.argo_base.specs.Slots.{fits, is_too_big, is_place, place_after, room}
 use Rattle.argo_model.specs.Rules.Deliver.{with_message}
-use Rattle.argo_model.specs.Rules.Messages.{spell, room_of}
+use Rattle.argo_model.specs.Rules.Messages.{spell}
 use Rattle.argo_model.specs.Rules.RingBytes.{free, write_slots, write_tx}
 use Rattle.guest_pages.specs.Rows.{row_bytes, numbers_of}
 use Rattle.ring_space.proofs.RunLaws.{count_stays}
