@@ -5,6 +5,7 @@ argo         a whole script; it must run
 asm          a whole source of argo_asm; its script must run
 report N     the whole output for the script above under the seed N
 lines N      lines of that output, in this order
+summary N    the whole output for the words `gen N`, which need no script
 asm-line     a line of argo_asm, in a domain 1 of two pages; what it writes must run
 argo-line    what argo_asm writes of the line above, without its comments
 
@@ -21,8 +22,8 @@ AROUND = "argo 1\ndomain 1 pages 2\nvcpu 1\n"
 class Case:
     """A run that a document shows: the whole output, some of its lines, or only that there is a report."""
 
-    def __init__(self, name, script, seed, wanted, is_whole):
-        self.name, self.script, self.seed = name, script, seed
+    def __init__(self, name, script, words, wanted, is_whole):
+        self.name, self.script, self.words = name, script, words
         self.wanted, self.is_whole = wanted, is_whole
 
     def wrong(self, output):
@@ -46,7 +47,7 @@ class Reader:
         return made.stdout
 
     def case(self, line, seed, wanted, is_whole=False):
-        self.cases.append(Case(f"{self.name}:{line}", self.script, seed or "0", wanted, is_whole))
+        self.cases.append(Case(f"{self.name}:{line}", self.script, ["serial", seed or "0"], wanted, is_whole))
 
     def block(self, line, kind, seed, text):
         if kind in ("argo", "asm"):
@@ -54,6 +55,8 @@ class Reader:
             self.case(line, seed, "end")
         elif kind in ("report", "lines"):
             self.case(line, seed, text, kind == "report")
+        elif kind == "summary":
+            self.cases.append(Case(f"{self.name}:{line}", "", ["gen", seed], text, True))
         elif kind == "asm-line":
             self.script = self.assemble(AROUND + text)
             self.wrote = "".join(f"{it}\n" for it in self.script.splitlines()[3:] if not it.startswith("#"))

@@ -2,7 +2,7 @@
 use Rattle.std.proofs.Common.{◌≡◌, ℕ, zero, suc, ◌+◌, ◌-◌, ◌*◌, ◌^◌, ◌<◌, ◌≤◌, Bool, true, false, ◌&&◌, cond, nat_le, nat_lt, List, [], ◌∷◌, length, take, get_or, fold, Some, None, refl, sym, ap, arith, if◌then◌else◌}
 use Rattle.std.specs.List.{list_all}
 use Rattle.std.proofs.lemmas.Bool.Decides.{nat_tests}
-use Rattle.argo_run.specs.Words.{is_digit, decimal_value, is_seed}
+use Rattle.argo_run.specs.Words.{is_digit, decimal_value, is_number}
 
 abbrev more_digits : ℕ → List ℕ → ℕ
 more_digits n digits = fold (λ m b. 10 * m + (b - 48)) n digits
@@ -26,11 +26,11 @@ not_four false b c d h = refl
 not_less : (n : ℕ) → 2 ^ 64 ≤ n → nat_lt n (2 ^ 64) ≡ false
 not_less n large = grind (arith, nat_tests)
 
--- a word whose first digits spell too large a number already is no seed
-pub no_seed : (word : List ℕ) (k x : ℕ) → k < length word → 2 ^ 64 ≤ 10 * decimal_value (take k word) + (get_or word k x - 48)
-    → None ≡ (if is_seed word then Some (decimal_value word) else None)
-no_seed word k x inside large =
+-- a word whose first digits spell too large a number already is no number
+pub no_number : (word : List ℕ) (k x : ℕ) → k < length word → 2 ^ 64 ≤ 10 * decimal_value (take k word) + (get_or word k x - 48)
+    → None ≡ (if is_number word then Some (decimal_value word) else None)
+no_number word k x inside large =
     let h : 2 ^ 64 ≤ decimal_value word = omega (arith, large, one_more 0 k word x inside) in
     let e : nat_lt (decimal_value word) (2 ^ 64) ≡ false = not_less (decimal_value word) h in
-    let no : is_seed word ≡ false = not_four (nat_le 1 (length word)) (nat_le (length word) 20) (list_all is_digit word) (nat_lt (decimal_value word) (2 ^ 64)) e in
+    let no : is_number word ≡ false = not_four (nat_le 1 (length word)) (nat_le (length word) 20) (list_all is_digit word) (nat_lt (decimal_value word) (2 ^ 64)) e in
     sym (ap (λ b. cond b (Some (decimal_value word)) None) no)

@@ -10,8 +10,10 @@ use Rattle.script_text.specs.declared.kind.ScriptFault.{ScriptFault}
 use Rattle.script_text.specs.Scripts.{scripts_of}
 use Rattle.argo_run.specs.declared.status.Status.{Status}
 use Rattle.argo_run.specs.declared.status.Status.TheVariants as s
-use Rattle.argo_run.specs.Words.{seed_of}
-use Rattle.argo_run.specs.Due.{IsReport, IsDue, fault_text, usage_text}
+use Rattle.argo_run.specs.declared.words.Form.{Form}
+use Rattle.argo_run.specs.declared.words.Form.TheVariants as f
+use Rattle.argo_run.specs.Words.{form_of}
+use Rattle.argo_run.specs.Due.{IsReport, IsDue, IsSummary, fault_text, usage_text}
 
 -- the bytes that were read: all of the source, or 4,194,305 of them
 pub record IsRead (old new : Option (List ℕ)) (read : List ℕ) : Type 0 where
@@ -47,6 +49,22 @@ pub record IsCutShort (seed : ℕ) (left left_new written written_new : Option (
 -- memory ran out before a byte was written, or while the text that was due was written
 abbrev pub IsLeftOff : ℕ → Option (List ℕ) → Option (List ℕ) → Option (List ℕ) → Option (List ℕ) → Type 0
 IsLeftOff seed left left_new written written_new = (written_new ≡ written) ⊎ IsCutShort seed left left_new written written_new
+
+-- status 0 of generated scripts: their summary was written whole
+pub record IsSummed (n : ℕ) (written written_new : Option (List ℕ)) : Type 0 where
+  pub text : List ℕ
+  pub is_summary : IsSummary n text
+  pub whole : written_new ≡ appended written text
+
+-- a part of the summary was written, and not all of it
+pub record IsSummaryCutShort (n : ℕ) (written written_new : Option (List ℕ)) : Type 0 where
+  pub text : List ℕ
+  pub is_summary : IsSummary n text
+  pub cut : CutShort written written_new text
+
+-- memory ran out before a byte was written, or while the summary was written
+abbrev pub IsSummaryLeftOff : ℕ → Option (List ℕ) → Option (List ℕ) → Type 0
+IsSummaryLeftOff n written written_new = (written_new ≡ written) ⊎ IsSummaryCutShort n written written_new
 
 -- one condition for each status; the others are met by every end
 abbrev pub IfDone : Status → Type 0 → Type 0
@@ -92,12 +110,21 @@ IsDoneWhereNothingFails left source_rose sink_rose status =
     (read : List ℕ) (script : Script) → left ≡ Some read → scripts_of read ≡ Ok script → (source_rose → ⊥) → (sink_rose → ⊥)
     → (status ≡ s.Done) ⊎ (status ≡ s.NoMemory)
 
--- the seed of the words of the command line, where they have one
-abbrev pub seeds : Vec (String Global) Global → Option ℕ
-seeds words = seed_of (map string_bytes words.items)
+-- where the sink's count did not rise, the summary was written or memory ran out
+abbrev pub IsDoneWhereSinkStands : Type 0 → Status → Type 0
+IsDoneWhereSinkStands sink_rose status = (sink_rose → ⊥) → (status ≡ s.Done) ⊎ (status ≡ s.NoMemory)
 
+-- the form of the words of the command line, where they have one
+abbrev pub form_in : Vec (String Global) Global → Option Form
+form_in words = form_of (map string_bytes words.items)
+
+-- the words are `serial` and a seed, of which this holds
 abbrev pub HasSeed : Vec (String Global) Global → (ℕ → Type 0) → Type 0
-HasSeed words P = (seed : ℕ) × (seeds words ≡ Some seed) × P seed
+HasSeed words P = (seed : ℕ) × (form_in words ≡ Some (f.Serial seed)) × P seed
+
+-- the words are `gen` and a number, of which this holds
+abbrev pub HasNumber : Vec (String Global) Global → (ℕ → Type 0) → Type 0
+HasNumber words P = (n : ℕ) × (form_in words ≡ Some (f.Gen n)) × P n
 
 -- how the program ends after its last flush: as the run did, with no fault more; or the sink counted one
 abbrev pub EndsFlushed : ℕ → ℕ → Status → Status → Type 0
@@ -109,6 +136,7 @@ abbrev pub IsUsageOrSinkFault : Status → Type 0
 IsUsageOrSinkFault status = (status ≡ s.Usage) ⊎ (status ≡ s.SinkFault)
 
 -- a part of the text that was due for the words was written, and not all of it
-abbrev pub IsTextCutShort : Option ℕ → Option (List ℕ) → Option (List ℕ) → Option (List ℕ) → Option (List ℕ) → Type 0
-IsTextCutShort (Some seed) left left_new written written_new = IsCutShort seed left left_new written written_new
+abbrev pub IsTextCutShort : Option Form → (left left_new written written_new : Option (List ℕ)) → Type 0
+IsTextCutShort (Some (f.Serial seed)) left left_new written written_new = IsCutShort seed left left_new written written_new
+IsTextCutShort (Some (f.Gen n)) left left_new written written_new = IsSummaryCutShort n written written_new
 IsTextCutShort None left left_new written written_new = CutShort written written_new usage_text

@@ -1,11 +1,12 @@
 //! The program: words, the bytes of a script and its report.
 //!
-//! `run` does all that the program does, and `run_serial` what it does for the words `serial N`: with status 0 what was written
-//! is exactly the report of the abstract Argo machine under the picks of the seed. `end_of` says what the last flush leaves of that.
-//! It stands on all crates below it.
+//! `run` does all that the program does, `run_serial` what it does for the words `serial N`, and `run_gen` for `gen N`: with status 0
+//! what was written is exactly the report of the abstract Argo machine under the picks of the seed, or the summary of the scripts that
+//! the number makes. `end_of` says what the last flush leaves of that. It stands on all crates below it.
 #![tactic(auto)]
 
 mod end;
+mod generated;
 mod program;
 mod serial;
 mod status;
@@ -15,6 +16,7 @@ mod words;
 
 use argo_outside::{StdSink, StdSource};
 pub use end::end_of;
+pub use generated::run_gen;
 pub use program::run;
 pub use serial::run_serial;
 pub use status::Status;

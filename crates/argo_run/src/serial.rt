@@ -1,3 +1,5 @@
+//! The words `serial N`: a script is read and run, and its report is written.
+
 ghost use Rattle.std.specs.Prelude.{◌≡◌, ◌≤◌, IfOk, IfErr};
 ghost use Rattle.std.specs.String.{string_bytes};
 ghost use Rattle.argo_outside.specs.Faults.{Rose};

@@ -1,3 +1,5 @@
+//! How a run ends.
+
 ghost use Rattle.std.specs.Prelude.{◌≡◌};
 ghost use Rattle.argo_run.specs.Numbers.{status_number};
 
@@ -8,7 +10,7 @@ use script_text::ScriptKind;
 pub enum Status {
     /// The text that is due was written whole.
     Done,
-    /// The words are not `serial N`, and the line of usage was written.
+    /// The words have no form that the program knows, and the line of usage was written.
     Usage,
     /// The source failed, and counted the fault. Nothing was written.
     SourceFault,

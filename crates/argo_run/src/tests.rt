@@ -1,4 +1,6 @@
-use crate::{Status, end_of, run, run_serial};
+//! What no contract says: that the calls do not always answer that memory ran out, and what comes of words, sources and sinks.
+
+use crate::{Status, end_of, run, run_gen, run_serial};
 use argo_base::{Bytes, NoMemory};
 use argo_outside::{CallList, MemSink, MemSource, Sink, StdSink};
 use script_text::ScriptKind;
@@ -25,6 +27,18 @@ reply 0 4 01020304
 reply 0 5 fault
 domain 1 alive clear
 vcpu 0 steps 8 accepted 0 bytes 0
+end
+";
+
+const SUMMARY_OF_ONE: &[u8] = b"argo summary 1
+vcpu 0 steps 2520 accepted 182 bytes 86967
+vcpu 1 steps 2611 accepted 188 bytes 93992
+vcpu 2 steps 2588 accepted 189 bytes 95979
+vcpu 3 steps 2563 accepted 178 bytes 88881
+vcpu 4 steps 2573 accepted 188 bytes 98082
+vcpu 5 steps 2528 accepted 180 bytes 88975
+vcpu 6 steps 2599 accepted 183 bytes 92568
+vcpu 7 steps 2581 accepted 185 bytes 85314
 end
 ";
 
@@ -103,6 +117,10 @@ fn wrong_words_are_answered_by_the_usage(rt: HostRuntime) -> Result<(), Fail> {
         "serial 18446744073709551616",
         "serial 000000000000000000001",
         "serial 1 2",
+        "gen",
+        "gen x",
+        "Gen 1",
+        "gen 1 2",
     ] {
         let words = words_of(rt.alloc(), text)?;
         let mut src = source(rt.alloc(), ACROSS_PAGES, &[])?;
@@ -125,6 +143,26 @@ fn the_words_of_a_seed_are_served(rt: HostRuntime) -> Result<(), Fail> {
         assert_eq!(rt; status, Status::Done, "at {text}");
         assert_eq!(rt; out.as_slice(), ACROSS_PAGES_REPORT, "at {text}");
     }
+    Ok(())
+}
+
+#[test]
+fn a_number_is_served_by_a_summary_and_nothing_is_read(rt: HostRuntime) -> Result<(), Fail> {
+    let words = words_of(rt.alloc(), "gen 01")?;
+    let mut src = source(rt.alloc(), ACROSS_PAGES, &[])?;
+    let mut out = sink(rt.alloc(), &[])?;
+    let status = run(rt.alloc(), &words, &mut src, &mut out);
+    assert_eq!(rt; (status, src.calls), (Status::Done, 0));
+    assert_eq!(rt; out.as_slice(), SUMMARY_OF_ONE);
+    Ok(())
+}
+
+#[test]
+fn a_sink_fails_and_the_summary_is_cut_short(rt: HostRuntime) -> Result<(), Fail> {
+    let mut out = sink(rt.alloc(), &[2])?;
+    let status = run_gen(rt.alloc(), 1, &mut out);
+    assert_eq!(rt; (status, status.number()), (Status::SinkFault, 4));
+    assert_eq!(rt; out.as_slice(), b"argo summary 1\n".as_slice());
     Ok(())
 }
 

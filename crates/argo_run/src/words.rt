@@ -1,20 +1,41 @@
-ghost use Rattle.std.specs.Prelude.{◌≡◌, ◌+◌, ◌≤◌, ◌^◌, Some, None, map, if◌then◌else◌};
-ghost use Rattle.std.specs.String.{string_bytes};
-ghost use Rattle.argo_run.specs.Words.{is_digit, decimal_value, is_seed, seed_of};
+//! The words of the command line.
 
-/// The seed of the words `serial N`.
-pub(crate) fn seed_of(words: &Vec<String>) -> Option<u64>
-    ensures { result ≡ seed_of (map string_bytes words.now.items) }
+ghost use Rattle.std.specs.Prelude.{◌≡◌, ◌+◌, ◌≤◌, ◌^◌, Some, None, map};
+ghost use Rattle.std.specs.String.{string_bytes};
+ghost use Rattle.argo_run.specs.Words.{is_digit, decimal_value, number_of, form_with, form_of};
+
+/// What the words ask for.
+#[derive(Clone, Copy, Debug, PartialEq, Eq)]
+pub(crate) enum Form {
+    /// `serial N`: the script of the input is run by the picks of this seed.
+    Serial(u64),
+    /// `gen N`: the scripts of this number are run by its picks.
+    Gen(u64),
+}
+
+/// The form of the words, if they have one.
+pub(crate) fn form_of(words: &Vec<String>) -> Option<Form>
+    ensures { result ≡ form_of (map string_bytes words.now.items) }
 {
     match words.as_slice() {
-        [name, number] if name.as_str() == "serial" => number_of(number.as_bytes()),
+        [name, number] => form_with(name.as_str(), number_of(number.as_bytes())?),
         _ => None,
     }
 }
 
-// The number of a word that spells a seed.
+fn form_with(name: &str, n: u64) -> Option<Form>
+    ensures { result ≡ form_with name.now n }
+{
+    match name {
+        "serial" => Some(Form::Serial(n)),
+        "gen" => Some(Form::Gen(n)),
+        _ => None,
+    }
+}
+
+// The number that a word spells, of 1 to 20 decimal digits.
 fn number_of(word: &[u8]) -> Option<u64>
-    ensures { result ≡ (if is_seed word.now then Some (decimal_value word.now) else None) }
+    ensures { result ≡ number_of word.now }
 {
     if word.is_empty() || word.len() > 20 {
         return None;
