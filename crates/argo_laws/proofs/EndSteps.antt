@@ -34,7 +34,7 @@ ring_ends t n at st none =
     subst (λ m. standing t.after m ≡ None) (sym e) (stands_not t.after n none)
 
 -- what holds of every ring holds of the one of a serial
-entry_each : (P : RingKey × Ring → Type 0) (rings : List (RingKey × Ring)) (n : ℕ) (e : RingKey × Ring) → entry rings n ≡ Some e → Each P rings → P e
+pub entry_each : (P : RingKey × Ring → Type 0) (rings : List (RingKey × Ring)) (n : ℕ) (e : RingKey × Ring) → entry rings n ≡ Some e → Each P rings → P e
 entry_each P [] n e h all = cc
 entry_each P (f ∷ fs) n e h all = by (f.1.serial == n) h (entry_each P fs n e) where
   by : (b : Bool) → cond b (Some f) (entry fs n) ≡ Some e → (entry fs n ≡ Some e → Each P fs → P e) → P e
@@ -44,18 +44,18 @@ entry_each P (f ∷ fs) n e h all = by (f.1.serial == n) h (entry_each P fs n e)
   by false h rest = rest h all.1
 
 -- the rings of a domain's life, where it has one in that generation
-abbrev entry_at : ℕ → ℕ → Option Domain → Option (RingKey × Ring)
+abbrev pub entry_at : ℕ → ℕ → Option Domain → Option (RingKey × Ring)
 entry_at g n o = option_and_then (λ (live : Live). entry live.rings n) (option_and_then (life_in g) o)
 
 -- a ring without a domain's notice, under its key
-abbrev cleared : ℕ → RingKey × Ring → RingKey × Ring
+abbrev pub cleared : ℕ → RingKey × Ring → RingKey × Ring
 cleared d e = (e.0, ring_without d e.1)
 
-abbrev is_other : ℕ → RingKey × Ring → Bool
+abbrev pub is_other : ℕ → RingKey × Ring → Bool
 is_other d e = not (e.0.partner == d)
 
 -- what is left of a ring where a domain is forgotten
-entry_forgot : (s : State) (valid : IsValid s) (d g n q : ℕ) → entry_at g n (domain_of (forget s d) q) ≡ option_map (cleared d) (kept_entry (is_other d) (entry_at g n (domain_of s q)))
+pub entry_forgot : (s : State) (valid : IsValid s) (d g n q : ℕ) → entry_at g n (domain_of (forget s d) q) ≡ option_map (cleared d) (kept_entry (is_other d) (entry_at g n (domain_of s q)))
 entry_forgot s valid d g n q = ap (entry_at g n) (get_map (change_life (live_without d)) q s) ∙ there (domain_of s q) refl where
   rings : (live : Live) → IsLive (is_alive s) live → entry (rings_without d live.rings) n ≡ option_map (cleared d) (kept_entry (is_other d) (entry live.rings n))
   rings live h = entry_map (ring_without d) (λ r. refl) (filter (is_other d) live.rings) n ∙ ap (option_map (cleared d)) (entry_filter (is_other d) live.rings n h.apart)
@@ -94,9 +94,8 @@ not_both o n none some = cc
 
 -- a domain is forgotten, and what it has itself goes
 module _ (t : Transition) (valid : IsValid t.before) (d : ℕ) (last : Domain → Domain) (is : t.after ≡ change_domain (forget t.before d) d last)
-    (empty : (g n : ℕ) (x : Domain) → entry_at g n (Some (last x)) ≡ None) (clear : (x : Domain) → flag_of (Some (last x)) ≡ false)
-    (legal : (at : RingAt) (q size : ℕ) → RingEnds t at ⊎ (d ≡ q) → EndsLegally t at q size) (clears : (q : ℕ) → d ≡ q → ClearsFlag t q) where
-  entry_gone : (name : RingName) → d ≡ name.owner → entry_of t.after name ≡ None
+    (empty : (g n : ℕ) (x : Domain) → entry_at g n (Some (last x)) ≡ None) where
+  pub entry_gone : (name : RingName) → d ≡ name.owner → entry_of t.after name ≡ None
   entry_gone name owner =
       ap (λ u. entry_of u name) is
       ∙ ap (entry_at name.generation name.serial) (subst (λ q. domain_of (change_domain (forget t.before d) d last) q ≡ option_map last (domain_of (forget t.before d) d)) owner (domain_here (forget t.before d) d last))
@@ -105,11 +104,15 @@ module _ (t : Transition) (valid : IsValid t.before) (d : ℕ) (last : Domain �
         by None = refl
         by (Some x) = empty name.generation name.serial x
 
-  entry_left : (name : RingName) → d ≢ name.owner → entry_of t.after name ≡ option_map (cleared d) (kept_entry (is_other d) (entry_of t.before name))
+  pub entry_left : (name : RingName) → d ≢ name.owner → entry_of t.after name ≡ option_map (cleared d) (kept_entry (is_other d) (entry_of t.before name))
   entry_left name apart =
       ap (λ u. entry_of u name) is ∙ ap (entry_at name.generation name.serial) (domain_else (forget t.before d) d name.owner last apart)
       ∙ entry_forgot t.before valid d name.generation name.serial name.owner
 
+-- so notices and flags end with it
+module _ (t : Transition) (valid : IsValid t.before) (d : ℕ) (last : Domain → Domain) (is : t.after ≡ change_domain (forget t.before d) d last)
+    (empty : (g n : ℕ) (x : Domain) → entry_at g n (Some (last x)) ≡ None) (clear : (x : Domain) → flag_of (Some (last x)) ≡ false)
+    (legal : (at : RingAt) (q size : ℕ) → RingEnds t at ⊎ (d ≡ q) → EndsLegally t at q size) (clears : (q : ℕ) → d ≡ q → ClearsFlag t q) where
   ended : (name : RingName) (e : RingKey × Ring) → entry_of t.after name ≡ None → RingEnded t name e
   ended name e none = record { ends = λ at st q size stood. legal at q size (inl (ring_ends t name at st none)) }
 
@@ -125,7 +128,7 @@ module _ (t : Transition) (valid : IsValid t.before) (d : ℕ) (last : Domain �
       }
 
   does : (name : RingName) → Does t name (entry_of t.before name) (entry_of t.after name)
-  does name = ⊎_elim (λ owner. here (entry_gone name owner) (entry_of t.before name)) (λ apart. left (entry_left name apart)) (cases_eq d name.owner) where
+  does name = ⊎_elim (λ owner. here (entry_gone t valid d last is empty name owner) (entry_of t.before name)) (λ apart. left (entry_left t valid d last is empty name apart)) (cases_eq d name.owner) where
     here : entry_of t.after name ≡ None → (o : Option (RingKey × Ring)) → Does t name o (entry_of t.after name)
     here none None = subst (Does t name None) (sym none) tt
     here none (Some e) = subst (Does t name (Some e)) (sym none) (ended name e none)
@@ -159,13 +162,13 @@ module _ (t : Transition) (valid : IsValid t.before) (d : ℕ) (last : Domain �
         notices = notices_by t does;
       }
 
-none_gone : (g n : ℕ) (x : Domain) → entry_at g n (Some (gone_domain x)) ≡ None
+pub none_gone : (g n : ℕ) (x : Domain) → entry_at g n (Some (gone_domain x)) ≡ None
 none_gone g n x = by (x.generation == g) where
   by : (b : Bool) → option_and_then (λ (live : Live). entry live.rings n) (if b then None else None) ≡ None
   by true = refl
   by false = refl
 
-none_reset : (g n : ℕ) (x : Domain) → entry_at g n (Some (change_life reset_live x)) ≡ None
+pub none_reset : (g n : ℕ) (x : Domain) → entry_at g n (Some (change_life reset_live x)) ≡ None
 none_reset g n x = by (x.generation == g) x.life where
   by : (b : Bool) (l : Option Live) → option_and_then (λ (live : Live). entry live.rings n) (if b then option_map reset_live l else None) ≡ None
   by true None = refl
@@ -207,7 +210,7 @@ clear_next (Some x) = refl
 
 -- a domain that is gone is made anew
 module _ (t : Transition) (d : ℕ) (is : t.after ≡ change_domain t.before d next_domain) (dead : is_alive t.before d ≡ false) where
-  entry_made : (name : RingName) → entry_of t.after name ≡ entry_of t.before name
+  pub entry_made : (name : RingName) → entry_of t.after name ≡ entry_of t.before name
   entry_made name =
       ⊎_elim (λ owner.
       ap (λ u. entry_of u name) is

@@ -76,36 +76,36 @@ not_both o n none some = cc
 -- the ring that a domain meets
 module _ (d g v k : ℕ) (r : Option Reply) (s : State) (valid : IsValid s) (to port : ℕ) (y : Domain) (old : Live) (f : Found s to y old) (on : y.on ≡ true) (e : RingKey × Ring)
     (met : match_of old.rings port d ≡ Some e) where
-  good : IsLive (is_alive s) old
+  pub good : IsLive (is_alive s) old
   good = subst (λ (l : Option Live). IfSome l (IsLive (is_alive s))) f.life (fit_found (is_alive s) s to y f.here valid.lives)
 
-  here : lookup (is_at (key_cmp e.0)) old.rings ≡ Some e.1
+  pub here : lookup (is_at (key_cmp e.0)) old.rings ≡ Some e.1
   here = (matched old.rings port d e met).found
 
-  abbrev at : RingAt
+  abbrev pub at : RingAt
   at = made_at to y old e.0 e.1
 
-  abbrev name : RingName
+  abbrev pub name : RingName
   name = made_name to y.generation e.1.serial
 
-  match_is : match_at s to port d ≡ Some at
+  pub match_is : match_at s to port d ≡ Some at
   match_is =
       ap (option_and_then (match_of_domain to port d)) f.here
       ∙ ap (λ (b : Bool). if b then option_and_then (λ (live : Live). match_in to y live port d) y.life else None) on
       ∙ ap (option_and_then (λ (live : Live). match_in to y live port d)) f.life
       ∙ ap (option_map (λ (z : RingKey × Ring). made_at to y old z.0 z.1)) met
 
-  is_met_here : IsTrue (is_met s name to port d)
+  pub is_met_here : IsTrue (is_met s name to port d)
   is_met_here = subst (λ (o : Option RingAt). IsTrue (is_there_and (has_name name) o)) (sym match_is) (named_so to y.generation e.1.serial)
 
   rising : IsRising e.1.notices
   rising = (choice s to y old f e.0 e.1 good here).ring.one_notice_each
 
-  abbrev p : PagedRing
+  abbrev pub p : PagedRing
   p = paged old.bytes e.1
 
   -- a change of that ring
-  abbrev ring_step : Action → Change PagedRing → Transition
+  abbrev pub ring_step : Action → Change PagedRing → Transition
   ring_step a c = moves_to (Vcpu d g) v k r s a (change_in s to (lifted (set_paged old e.0) c))
 
   ring_if : (a : Action) (test : Bool) (err : Errno) (rest : Change PagedRing) → (test ≡ false → Lawful (ring_step a rest)) → Lawful (ring_step a (refuse_if test err rest))
@@ -255,8 +255,8 @@ module _ (d g v k : ℕ) (r : Option Reply) (s : State) (valid : IsValid s) (x :
         matches y old f on (Some e) is = lawful_question d g v k r s valid to port y old f on e is need
 
         lives : (y : Domain) → domain_of s to ≡ Some y → y.on ≡ true → (l : Option Live) → y.life ≡ l → Lawful (to_state (Query to port need) to (query_life d port need l))
-        lives y here on None is = lawful_same (to_state (Query to port need) to (answered (Answered no_answer))) refl
-        lives y here on (Some old) is = matches y old (record { here = here; life = is }) on (match_of old.rings port d) refl
+        lives y found on None is = lawful_same (to_state (Query to port need) to (answered (Answered no_answer))) refl
+        lives y found on (Some old) is = matches y old (record { here = found; life = is }) on (match_of old.rings port d) refl
 
         there : (y : Option Domain) → domain_of s to ≡ y → Lawful (to_state (Query to port need) to (query_domain d port need y))
         there None here = lawful_same (to_state (Query to port need) to (answered (Answered no_answer))) refl
