@@ -1,15 +1,15 @@
 -- The laws beside: rings that stand, and rings that start.
-use Rattle.std.proofs.Common.{◌≡◌, ℕ, ◌+◌, ◌≤◌, Bool, true, false, ◌&&◌, ◌==◌, IsTrue, List, length, take, Option, Some, refl, sym, ap, ◌∙◌, subst, arith}
+use Rattle.std.proofs.Common.{◌≡◌, ℕ, true, ◌==◌, IsTrue, List, take, Option, Some, sym, ◌∙◌, subst, arith}
 use Rattle.std.specs.Prelude.{IfSome}
 use Rattle.std.proofs.lemmas.Bool.{and_parts, and_from}
 use Rattle.std.proofs.lemmas.Bool.Decides.{nat_tests}
-use Rattle.argo_base.specs.Slots.{is_legal, is_place}
+use Rattle.argo_base.specs.Slots.{is_place}
 use Rattle.argo_base.proofs.SlotLaws.{legal}
 use Rattle.argo_model.specs.Laws.RingNames.{RingName, standing}
 use Rattle.argo_model.specs.Rules.Matches.{RingAt}
-use Rattle.argo_model.specs.Rules.RingBytes.{PagedRing, rx_word, tx_word}
+use Rattle.argo_model.specs.Rules.RingBytes.{rx_word, tx_word}
 use Rattle.argo_model.specs.Rules.Starts.{start_place, started}
-use Rattle.argo_model.specs.Rules.State.{State, Live, is_alive}
+use Rattle.argo_model.specs.Rules.State.{Live, is_alive}
 use Rattle.argo_model.specs.Runs.Run.{run}
 use Rattle.argo_model.specs.Runs.Script.{Script}
 use Rattle.argo_laws.specs.Beside.{StandsWell, StartsCleanWhereEqual}

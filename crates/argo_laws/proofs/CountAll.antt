@@ -1,49 +1,33 @@
 -- Laws of all steps by the messages of rings, and of runs: what a clean ring holds.
-use Rattle.std.proofs.Common.{◌≡◌, ◌≢◌, ℕ, ◌+◌, ◌<◌, ◌≤◌, Bool, true, false, cond, if◌then◌else◌, ◌==◌, ◌⊎◌, not, is_none, IsTrue, List, [], ◌∷◌, ◌++◌, length, drop, fold, slice_get, Option, Some, None, option_map, option_and_then, option_to_list, unwrap_or, ⊎_elim, inl, inr, refl, sym, ap, ◌∙◌, subst, arith, length-append, length-drop}
+use Rattle.std.proofs.Common.{◌≡◌, ◌≢◌, ℕ, Bool, true, false, if◌then◌else◌, not, is_none, Option, Some, None, option_map, ⊎_elim, inr, refl, sym, subst}
 use Rattle.std.specs.Prelude.{IfSome}
-use Rattle.std.specs.Ordering.{nat_cmp}
-use Rattle.std.specs.BTreeMap.{is_at, insert_entry}
-use Rattle.std.proofs.lemmas.Bool.{cases_eq, false≢true}
-use Rattle.std.proofs.lemmas.List.{drop-drop, drop-append-le, append-nil}
+use Rattle.std.proofs.lemmas.Bool.{cases_eq}
 use Rattle.argo_base.specs.declared.errno.Errno.TheVariants.{Srch, Exist, NoDev}
-use Rattle.argo_base.specs.declared.message.Message.{Message}
 use Rattle.argo_base.specs.declared.ring_key.RingKey.{RingKey}
 use Rattle.argo_model.specs.declared.action.Action.{Action}
 use Rattle.argo_model.specs.declared.action.Action.TheVariants.{Rest, Fetch, Put, Register, Unregister, Deliver, Sweep, Query, Look, Destroy, Reset, Create}
 use Rattle.argo_model.specs.declared.action.Outcome.{Outcome}
-use Rattle.argo_model.specs.declared.action.Outcome.TheVariants.{Done, Bytes, Fault, Gone}
+use Rattle.argo_model.specs.declared.action.Outcome.TheVariants.{Done, Gone}
 use Rattle.argo_model.specs.declared.reply.Reply.{Reply}
 use Rattle.argo_model.specs.declared.scripts.Actor.{Actor}
 use Rattle.argo_model.specs.declared.scripts.Actor.TheVariants.{Vcpu, Control}
-use Rattle.argo_model.specs.declared.scripts.DomainLine.{DomainLine}
-use Rattle.argo_model.specs.Laws.Holding.{HoldsUntaken}
-use Rattle.argo_model.specs.Laws.RingNames.{RingName, name_of, is_owner, standing}
-use Rattle.argo_model.specs.Laws.Taken.{starts_ring, brought_by, taken_by_step, accepted_after, accepted_by, taken_after, taken_from}
-use Rattle.argo_model.specs.Laws.Transitions.{Transition, transition_of, transition_at, transitions_from, transitions_of}
-use Rattle.argo_model.specs.Rules.Act.{act, act_of, act_if_live, act_if_there, act_of_control, fetch}
-use Rattle.argo_model.specs.Rules.Destroy.{ring_without, forget, gone_domain, reset_live, next_domain, change_all, destroy, reset, create}
-use Rattle.argo_model.specs.Rules.Effects.{Effect, refused, leaving, stays, refuse_if, change_in}
-use Rattle.argo_model.specs.Rules.Matches.{RingAt}
+use Rattle.argo_model.specs.Laws.RingNames.{RingName}
+use Rattle.argo_model.specs.Laws.Transitions.{Transition}
+use Rattle.argo_model.specs.Rules.Act.{act, act_of, act_if_live, act_if_there}
+use Rattle.argo_model.specs.Rules.Destroy.{forget, gone_domain, reset_live, next_domain, change_all, destroy, reset, create}
+use Rattle.argo_model.specs.Rules.Effects.{Effect, refused, leaving, stays, refuse_if}
 use Rattle.argo_model.specs.Rules.Outcomes.{is_done}
-use Rattle.argo_model.specs.Rules.RingBytes.{ring_bytes}
-use Rattle.argo_model.specs.Rules.State.{State, Domain, Live, Ring, domain_of, life_in, is_alive, has_page, change_domain, change_life, fresh_domain, start_state}
+use Rattle.argo_model.specs.Rules.State.{State, Domain, Live, Ring, domain_of, life_in, is_alive, change_domain, change_life}
 use Rattle.argo_model.specs.Rules.Sweep.{sweep_found, next_ring}
 use Rattle.argo_model.specs.Runs.Final.{accepted_size, is_accepted}
-use Rattle.argo_model.specs.Runs.Run.{Progress, Turn, Course, turn, after_turn, start, step, run}
-use Rattle.argo_model.specs.Runs.Script.{Script}
-use Rattle.state_laws.specs.Each.{Each}
-use Rattle.state_laws.specs.Valid.{IsLive, IsRing, IsHeld, KeepsUntaken, IsValid}
-use Rattle.state_laws.proofs.Courses.{valid_run, valid_step}
-use Rattle.state_laws.proofs.StateActs.{valid_start}
+use Rattle.state_laws.specs.Valid.{IsLive, IsValid}
 use Rattle.state_laws.proofs.Domains.{fit_found}
-use Rattle.state_laws.proofs.Lists.{each_found}
-use Rattle.state_laws.proofs.Rising.{each_rising}
-use Rattle.argo_laws.proofs.Names.{entry, entry_of, kept_entry, Stands, stands}
+use Rattle.argo_laws.proofs.Names.{entry_of, kept_entry}
 use Rattle.argo_laws.proofs.Changes.{Found}
-use Rattle.argo_laws.proofs.Rings.{moves_to, made_name}
-use Rattle.argo_laws.proofs.AllSteps.{Lives, lives, of_turn}
-use Rattle.argo_laws.proofs.EndSteps.{entry_each, entry_gone, entry_left, entry_made, none_gone, none_reset, cleared, is_other, entry_at}
-use Rattle.argo_laws.proofs.Counts.{Begun, GoneOn, Tells, IsQuiet, gone_on, tells_same, IsIdle, quiet_idle, quiet_refused, quiet_other}
+use Rattle.argo_laws.proofs.Rings.{moves_to}
+use Rattle.argo_laws.proofs.AllSteps.{lives}
+use Rattle.argo_laws.proofs.EndSteps.{entry_gone, entry_left, entry_made, none_gone, none_reset, cleared, is_other}
+use Rattle.argo_laws.proofs.Counts.{Tells, IsQuiet, gone_on, tells_same, IsIdle, quiet_idle, quiet_refused, quiet_other}
 use Rattle.argo_laws.proofs.CountSteps.{Counts, counts_same, counts_if, counts_sweep, counts_look, counts_unregister, counts_put}
 use Rattle.argo_laws.proofs.CountStarts.{counts_register}
 use Rattle.argo_laws.proofs.CountOthers.{counts_deliver, counts_query}

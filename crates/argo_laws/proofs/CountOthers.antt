@@ -1,7 +1,6 @@
 -- Laws of deliveries and questions by the messages of rings: an accepted message joins those of the ring that it met.
-use Rattle.std.proofs.Common.{◌≡◌, ◌≢◌, ℕ, ◌+◌, ◌<◌, ◌≤◌, Bool, true, false, cond, if◌then◌else◌, ◌==◌, ◌&&◌, ◌⊎◌, not, IsTrue, List, [], ◌∷◌, ◌++◌, length, drop, Option, Some, None, option_map, option_and_then, option_to_list, unwrap_or, ⊎_elim, inl, inr, refl, sym, ap, ◌∙◌, subst, arith}
-use Rattle.std.specs.Prelude.{IfSome}
-use Rattle.std.proofs.lemmas.Bool.{cases_eq, false≢true, and_from, and_left, and_right}
+use Rattle.std.proofs.Common.{◌≡◌, ◌≢◌, ℕ, Bool, true, false, if◌then◌else◌, ◌==◌, ◌&&◌, ◌⊎◌, not, List, [], ◌∷◌, ◌++◌, length, drop, Option, Some, None, option_to_list, ⊎_elim, inl, inr, refl, sym, ap, ◌∙◌, arith}
+use Rattle.std.proofs.lemmas.Bool.{and_left, and_right}
 use Rattle.argo_base.specs.declared.errno.Errno.{Errno}
 use Rattle.argo_base.specs.declared.errno.Errno.TheVariants.{Srch, NoDev, ConnRefused, MsgSize, Again, Busy, Fault as efault}
 use Rattle.argo_base.specs.declared.message.Message.{Message}
@@ -14,15 +13,14 @@ use Rattle.argo_model.specs.declared.action.Action.TheVariants.{Deliver, Query}
 use Rattle.argo_model.specs.declared.action.Load.{Load}
 use Rattle.argo_model.specs.declared.action.Load.TheVariants.{Body, Faulted, Refused as RefusedLoad}
 use Rattle.argo_model.specs.declared.action.Outcome.{Outcome}
-use Rattle.argo_model.specs.declared.action.Outcome.TheVariants.{Accepted, Refused, Answer as Answered}
+use Rattle.argo_model.specs.declared.action.Outcome.TheVariants.{Refused, Answer as Answered}
 use Rattle.argo_model.specs.declared.reply.Reply.{Reply}
 use Rattle.argo_model.specs.declared.scripts.Actor.TheVariants.{Vcpu}
 use Rattle.argo_model.specs.Laws.RingNames.{RingName, has_name, is_met, is_there_and, is_owner, owner_in}
 use Rattle.argo_model.specs.Laws.Taken.{brought_by, taken_by_step}
 use Rattle.argo_model.specs.Laws.Transitions.{Transition}
-use Rattle.argo_model.specs.Rules.Deliver.{Offer, message_of, ring_with, with_message, with_notice, accepted, wait_for_room, if_it_fits, offer_load, offer, offer_to_match, offer_to_life, offer_to_domain}
+use Rattle.argo_model.specs.Rules.Deliver.{with_message, with_notice, accepted, wait_for_room, if_it_fits, offer_load, offer_to_match, offer_to_life, offer_to_domain}
 use Rattle.argo_model.specs.Rules.Effects.{Change, answered, refused, leaving, refuse_if, lifted, change_in}
-use Rattle.argo_model.specs.Rules.Matches.{RingAt}
 use Rattle.argo_model.specs.Rules.Outcomes.{is_done}
 use Rattle.argo_model.specs.Rules.Query.{request, answer_of, query_ring, query_match, query_life, query_domain, no_answer}
 use Rattle.argo_model.specs.Rules.RingBytes.{PagedRing, paged, free, set_paged, with_notices}
@@ -31,9 +29,9 @@ use Rattle.argo_model.specs.Runs.Final.{accepted_size, is_accepted}
 use Rattle.state_laws.specs.Valid.{IsValid}
 use Rattle.argo_laws.proofs.Names.{eqb_not}
 use Rattle.argo_laws.proofs.Changes.{Found}
-use Rattle.argo_laws.proofs.Rings.{moves_to, replaced, made_at, made_name}
-use Rattle.argo_laws.proofs.OtherSteps.{good, here, match_is, is_met_here, ring_step}
-use Rattle.argo_laws.proofs.Counts.{Tells, IsQuiet, gone_on, tells_same, nothing, no_start, quiet_idle, quiet_refused, rings_tell, ring_tells}
+use Rattle.argo_laws.proofs.Rings.{moves_to, made_name}
+use Rattle.argo_laws.proofs.OtherSteps.{good, here, match_is, is_met_here}
+use Rattle.argo_laws.proofs.Counts.{Tells, IsQuiet, gone_on, tells_same, nothing, no_start, quiet_refused, rings_tell, ring_tells}
 use Rattle.argo_laws.proofs.CountSteps.{Counts, counts_same, counts_if}
 
 module _ (d g v k : ℕ) (r : Option Reply) (s : State) (valid : IsValid s) (to port : ℕ) (y : Domain) (old : Live) (f : Found s to y old) (on : y.on ≡ true) (e : RingKey × Ring)
@@ -108,12 +106,14 @@ module _ (d g v k : ℕ) (r : Option Reply) (s : State) (valid : IsValid s) (to 
         let takes = λ (n : RingName). nothing (is_owner (Vcpu d g) n && false) in
         let brings : brought_by name t ≡ Some m = ap (λ (b : Bool). if b then Some m else None) (is_met_here d g v k r s valid to port y old f on e met) in
         let quiet : (n : RingName) → (to ≢ n.owner) ⊎ ((y.generation ≢ n.generation) ⊎ (e.1.serial ≢ n.serial)) → IsQuiet t n = λ n apart.
-            record { starts = starts n; takes = takes n; brings = ap (λ (b : Bool). if b then Some m else None) (not_met n apart) } in
+        record { starts = starts n; takes = takes n; brings = ap (λ (b : Bool). if b then Some m else None) (not_met n apart) } in
         record {
           each = rings_tell (Tells t) s to y old f (set_paged old e.0 q) (to ∷ [])
               (ring_tells (Tells t) s to y old f e.0 e.1 fine at_key q.ring refl
               (λ clean. inr (record {
-                starts = starts name; clean = clean; few = let z = takes name in omega arith;
+                starts = starts name;
+                clean = clean;
+                few = let z = takes name in omega arith;
                 untaken = ap (λ (b : Bool). if b then e.1.untaken ++ m ∷ [] else e.1.untaken) clean
                     ∙ ap (λ n. drop n e.1.untaken ++ m ∷ []) (sym (takes name)) ∙ ap (λ (o : Option Message). drop (taken_by_step name t) e.1.untaken ++ option_to_list o) (sym brings);
               }))

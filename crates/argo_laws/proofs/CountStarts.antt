@@ -1,8 +1,6 @@
 -- Laws of registrations by the messages of rings: the ring that starts has none.
-use Rattle.std.proofs.Common.{◌≡◌, ◌≢◌, ℕ, ◌+◌, ◌<◌, ◌≤◌, Bool, true, false, cond, if◌then◌else◌, ◌==◌, ◌&&◌, ◌⊎◌, not, is_some, nat_le, IsTrue, List, [], ◌∷◌, ◌++◌, length, filter, Option, Some, None, option_map, option_and_then, unwrap_or, ⊎_elim, inl, inr, refl, sym, ap, ◌∙◌, subst, arith}
-use Rattle.std.specs.Map.{lookup, set_value}
-use Rattle.std.specs.BTreeMap.{is_at, insert_entry}
-use Rattle.std.proofs.lemmas.Bool.{cases_eq, false≢true, and_from, and_left, and_right}
+use Rattle.std.proofs.Common.{◌≡◌, ◌≢◌, ℕ, ◌<◌, Bool, true, false, if◌then◌else◌, ◌&&◌, not, nat_le, List, [], ◌∷◌, ◌++◌, length, filter, Option, Some, None, option_and_then, ⊎_elim, inl, inr, refl, sym, ap, ◌∙◌, subst, arith}
+use Rattle.std.proofs.lemmas.Bool.{cases_eq, and_from, and_right}
 use Rattle.argo_base.specs.declared.errno.Errno.TheVariants.{Srch, NoDev, ConnRefused, Exist, NoSpc, Inval}
 use Rattle.argo_base.specs.declared.ring_key.RingKey.{RingKey}
 use Rattle.argo_base.specs.Match.{key_cmp, key_of}
@@ -14,20 +12,19 @@ use Rattle.argo_model.specs.declared.reply.Reply.{Reply}
 use Rattle.argo_model.specs.declared.scripts.Actor.TheVariants.{Vcpu}
 use Rattle.argo_model.specs.Laws.RingNames.{RingName, is_owner, owner_in}
 use Rattle.argo_model.specs.Laws.Taken.{is_number, started_serial, started_by, starts_ring}
-use Rattle.argo_model.specs.Laws.Transitions.{Transition}
 use Rattle.argo_model.specs.Rules.Effects.{Change, answered, leaving, refuse_if, change_in}
 use Rattle.argo_model.specs.Rules.Limits.{most_rings}
 use Rattle.argo_model.specs.Rules.Register.{own_ring, has_ring, are_free_for, resized, register_anew, new_ring, add_paged, register_new, stands_so, register_allowed, register_own, is_single}
-use Rattle.argo_model.specs.Rules.RingBytes.{PagedRing, paged, set_paged}
+use Rattle.argo_model.specs.Rules.RingBytes.{paged, set_paged}
 use Rattle.argo_model.specs.Rules.Starts.{started}
 use Rattle.argo_model.specs.Rules.State.{State, Domain, Live, Ring, is_alive, is_on}
 use Rattle.state_laws.specs.Each.{Each}
 use Rattle.state_laws.specs.Valid.{IsLive}
-use Rattle.state_laws.proofs.Lists.{each_weak, Added, added}
-use Rattle.argo_laws.proofs.Names.{entry, entry_of, entry_none, entry_other, entry_mid, eqb_self, eqb_not}
+use Rattle.state_laws.proofs.Lists.{each_weak, added}
+use Rattle.argo_laws.proofs.Names.{entry, entry_none, entry_other, entry_mid, eqb_self, eqb_not}
 use Rattle.argo_laws.proofs.Changes.{Found}
-use Rattle.argo_laws.proofs.Rings.{moves_to, replaced, made_name}
-use Rattle.argo_laws.proofs.Counts.{Begun, Tells, IsQuiet, tells_same, nothing, quiet_refused, quiet_other, rings_tell, ring_tells}
+use Rattle.argo_laws.proofs.Rings.{made_name}
+use Rattle.argo_laws.proofs.Counts.{Tells, IsQuiet, tells_same, nothing, quiet_other, rings_tell, ring_tells}
 use Rattle.argo_laws.proofs.CountSteps.{Counts, counts_same, counts_if, to, done_so, owner_is, is_own, not_own}
 
 module _ (d g v k : ℕ) (r : Option Reply) (s : State) (x : Domain) (live : Live) (f : Found s d x live) (gen : x.generation ≡ g) (h : IsLive (is_alive s) live) (port partner len : ℕ) (pages : List ℕ) (fail_exist : Bool) where
@@ -89,7 +86,7 @@ module _ (d g v k : ℕ) (r : Option Reply) (s : State) (x : Domain) (live : Liv
       let add = added key_cmp live.rings key p.ring none in
       let parts = add.parts in
       let all = subst (Each (λ (e : RingKey × Ring). e.1.serial ≢ live.next_serial)) parts
-          (each_weak (λ (e : RingKey × Ring). e.1.serial < live.next_serial) (λ (e : RingKey × Ring). e.1.serial ≢ live.next_serial) (λ e less same. omega arith) live.rings h.serials_are_made) in
+      (each_weak (λ (e : RingKey × Ring). e.1.serial < live.next_serial) (λ (e : RingKey × Ring). e.1.serial ≢ live.next_serial) (λ e less same. omega arith) live.rings h.serials_are_made) in
       record {
         each = rings_tell (Tells t) s d x live f new []
             (λ name owner same.

@@ -1,44 +1,38 @@
 -- Laws of the steps of a domain on what it has itself, by the messages of its rings.
-use Rattle.std.proofs.Common.{◌≡◌, ◌≢◌, ℕ, ◌+◌, ◌<◌, ◌≤◌, Bool, true, false, cond, if◌then◌else◌, ◌==◌, ◌&&◌, ◌⊎◌, not, is_some, nat_le, IsTrue, List, [], ◌∷◌, ◌++◌, length, map, filter, drop, Option, Some, None, option_map, option_and_then, option_to_list, unwrap_or, ⊎_elim, inl, inr, refl, sym, ap, ◌∙◌, subst, arith}
-use Rattle.std.specs.Map.{lookup, set_value, remove_entry}
-use Rattle.std.specs.BTreeMap.{is_at, insert_entry}
-use Rattle.std.proofs.lemmas.Bool.{cases_eq, false≢true, and_from, and_left, and_right}
+use Rattle.std.proofs.Common.{◌≡◌, ◌≢◌, ℕ, ◌≤◌, Bool, true, false, if◌then◌else◌, ◌==◌, ◌&&◌, ◌⊎◌, not, is_some, List, [], ◌++◌, length, filter, drop, Option, Some, None, option_map, option_and_then, unwrap_or, ⊎_elim, inl, inr, refl, sym, ap, ◌∙◌, subst, arith}
+use Rattle.std.proofs.lemmas.Bool.{cases_eq, false≢true, and_from}
 use Rattle.std.proofs.lemmas.List.{append-nil}
 use Rattle.argo_base.specs.declared.errno.Errno.{Errno}
-use Rattle.argo_base.specs.declared.errno.Errno.TheVariants.{Srch, NoDev, NoEnt, ConnRefused, Exist, NoSpc, Inval}
+use Rattle.argo_base.specs.declared.errno.Errno.TheVariants.{NoDev, NoEnt}
 use Rattle.argo_base.specs.declared.ring_key.RingKey.{RingKey}
-use Rattle.argo_base.specs.Match.{key_cmp, key_of}
-use Rattle.argo_base.specs.Notices.{Notices, doms_of, fits_now, never_fits}
+use Rattle.argo_base.specs.Match.{key_of}
+use Rattle.argo_base.specs.Notices.{Notices, doms_of, fits_now}
 use Rattle.argo_model.specs.declared.action.Action.{Action}
-use Rattle.argo_model.specs.declared.action.Action.TheVariants.{Put, Register, Unregister, Sweep, Look}
+use Rattle.argo_model.specs.declared.action.Action.TheVariants.{Put, Unregister, Sweep, Look}
 use Rattle.argo_model.specs.declared.action.Outcome.{Outcome}
-use Rattle.argo_model.specs.declared.action.Outcome.TheVariants.{Done, Fault, Swept, NoMore, Flag}
+use Rattle.argo_model.specs.declared.action.Outcome.TheVariants.{Done, Fault, Swept, Flag}
 use Rattle.argo_model.specs.declared.reply.Reply.{Reply}
 use Rattle.argo_model.specs.declared.scripts.Actor.{Actor}
 use Rattle.argo_model.specs.declared.scripts.Actor.TheVariants.{Vcpu}
 use Rattle.argo_model.specs.Laws.RingNames.{RingName, is_owner, owner_in, standing, standing_in, standing_of_owner}
-use Rattle.argo_model.specs.Laws.Taken.{is_number, started_serial, started_by, starts_ring, brought_by, moved_by, taken_by_step}
+use Rattle.argo_model.specs.Laws.Taken.{moved_by, taken_by_step}
 use Rattle.argo_model.specs.Laws.Transitions.{Transition}
 use Rattle.argo_model.specs.Rules.Act.{put, look}
-use Rattle.argo_model.specs.Rules.Effects.{Change, Effect, answered, refused, leaving, refuse_if, change_in, with_life}
-use Rattle.argo_model.specs.Rules.Limits.{most_rings}
+use Rattle.argo_model.specs.Rules.Effects.{Change, answered, refused, leaving, refuse_if, change_in}
 use Rattle.argo_model.specs.Rules.Matches.{RingAt}
 use Rattle.argo_model.specs.Rules.Puts.{byte_at, moves, touches, dirtied, clean_after, ring_after_put, after_put, move_of, put_into}
-use Rattle.argo_model.specs.Rules.Register.{own_ring, has_ring, are_free_for, resized, register_anew, new_ring, add_paged, register_new, stands_so, register_allowed, register_own, is_single, without_ring, unregister_own}
+use Rattle.argo_model.specs.Rules.Register.{own_ring, has_ring, without_ring, unregister_own}
 use Rattle.argo_model.specs.Rules.RingBytes.{PagedRing, paged, ring_bytes, free, set_paged, with_notices}
-use Rattle.argo_model.specs.Rules.Starts.{started}
-use Rattle.argo_model.specs.Rules.State.{State, Domain, Live, Ring, domain_of, life_in, is_alive, is_on, has_page}
+use Rattle.argo_model.specs.Rules.State.{State, Domain, Live, Ring, domain_of, life_in, is_alive, has_page}
 use Rattle.argo_model.specs.Rules.Sweep.{waits_on, sweep_found, next_ring}
-use Rattle.state_laws.specs.Each.{Each}
 use Rattle.state_laws.specs.Valid.{IsLive}
-use Rattle.state_laws.proofs.Lists.{each_weak, Added, added}
 use Rattle.state_laws.proofs.LiveActs.{same_put}
-use Rattle.state_laws.proofs.Lives.{next_in, lookup_in, Chosen}
-use Rattle.state_laws.proofs.OwnPuts.{IsMove, is_move}
-use Rattle.argo_laws.proofs.Names.{entry, entry_of, entry_none, entry_other, entry_mid, entry_map, eqb_self, eqb_not}
+use Rattle.state_laws.proofs.Lives.{next_in, lookup_in}
+use Rattle.state_laws.proofs.OwnPuts.{is_move}
+use Rattle.argo_laws.proofs.Names.{entry, entry_of, entry_none, entry_other, entry_map, eqb_self}
 use Rattle.argo_laws.proofs.Changes.{Found}
 use Rattle.argo_laws.proofs.Rings.{moves_to, replaced, made_at, made_name, choice, alone}
-use Rattle.argo_laws.proofs.Counts.{Begun, GoneOn, Tells, IsQuiet, gone_on, tells_same, nothing, no_start, is_not_owner, IsIdle, quiet_idle, quiet_refused, quiet_other, rings_tell, ring_tells}
+use Rattle.argo_laws.proofs.Counts.{Tells, IsQuiet, gone_on, tells_same, no_start, is_not_owner, IsIdle, quiet_idle, quiet_refused, quiet_other, rings_tell, ring_tells}
 
 -- what a step does to the messages of every named ring
 pub record Counts (t : Transition) : Type 0 where

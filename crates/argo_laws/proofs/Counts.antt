@@ -1,33 +1,30 @@
 -- Laws of what a step does to the messages of a named ring: it starts it, or adds what it brings and drops what it takes.
-use Rattle.std.proofs.Common.{◌≡◌, ◌≢◌, ℕ, ◌+◌, ◌<◌, ◌≤◌, Bool, true, false, cond, if◌then◌else◌, ◌==◌, ◌&&◌, ◌⊎◌, IsTrue, List, [], ◌∷◌, ◌++◌, length, drop, Option, Some, None, option_map, option_and_then, option_to_list, unwrap_or, ⊎_elim, inl, inr, refl, sym, ap, ◌∙◌, subst, arith}
+use Rattle.std.proofs.Common.{◌≡◌, ◌≢◌, ℕ, ◌≤◌, Bool, true, false, if◌then◌else◌, ◌==◌, ◌&&◌, ◌⊎◌, List, [], ◌∷◌, ◌++◌, length, drop, Option, Some, None, option_and_then, option_to_list, unwrap_or, ⊎_elim, inl, inr, refl, sym, ap, ◌∙◌, subst, arith}
 use Rattle.std.specs.Map.{lookup, set_value}
 use Rattle.std.specs.BTreeMap.{is_at}
-use Rattle.std.proofs.lemmas.Bool.{cases_eq, and_left, and_right, false_from_ne_true}
+use Rattle.std.proofs.lemmas.Bool.{cases_eq, and_left, and_right}
 use Rattle.std.proofs.lemmas.List.{append-nil}
 use Rattle.argo_base.specs.declared.message.Message.{Message}
 use Rattle.argo_base.specs.declared.ring_key.RingKey.{RingKey}
 use Rattle.argo_base.specs.Match.{key_cmp}
 use Rattle.argo_model.specs.declared.action.Action.{Action}
 use Rattle.argo_model.specs.declared.action.Action.TheVariants.{Rest, Fetch, Put, Register, Unregister, Deliver, Sweep, Query, Look, Destroy, Reset, Create}
-use Rattle.argo_model.specs.declared.action.Load.{Load}
-use Rattle.argo_model.specs.declared.action.Load.TheVariants.{Body, Faulted, Refused as RefusedLoad}
-use Rattle.argo_model.specs.declared.action.Outcome.{Outcome}
 use Rattle.argo_model.specs.declared.reply.Reply.{Reply}
 use Rattle.argo_model.specs.declared.scripts.Actor.{Actor}
-use Rattle.argo_model.specs.declared.scripts.Actor.TheVariants.{Vcpu, Control}
+use Rattle.argo_model.specs.declared.scripts.Actor.TheVariants.{Vcpu}
 use Rattle.argo_model.specs.Laws.RingNames.{RingName, is_owner, owner_in}
 use Rattle.argo_model.specs.Laws.Taken.{is_number, started_by, starts_ring, offered_to, brought_by, moved_by, taken_by_step}
 use Rattle.argo_model.specs.Laws.Transitions.{Transition}
 use Rattle.argo_model.specs.Programs.Program.{caller_of}
-use Rattle.argo_model.specs.Rules.Effects.{Change, Effect, change_in, with_life}
+use Rattle.argo_model.specs.Rules.Effects.{Effect, with_life}
 use Rattle.argo_model.specs.Rules.Outcomes.{is_done}
 use Rattle.argo_model.specs.Rules.State.{State, Domain, Live, Ring, is_alive, change_domain, signal_all}
 use Rattle.argo_model.specs.Runs.Final.{accepted_size, is_accepted}
 use Rattle.state_laws.specs.Each.{Each}
 use Rattle.state_laws.specs.Valid.{IsLive}
-use Rattle.argo_laws.proofs.Names.{entry, entry_of, entry_other, entry_mid, entry_none, eqb_not}
+use Rattle.argo_laws.proofs.Names.{entry, entry_of, entry_other, entry_mid, eqb_not}
 use Rattle.argo_laws.proofs.Changes.{Found, entry_else, entry_before, entry_after, entry_past}
-use Rattle.argo_laws.proofs.Rings.{made_name, moves_to, replaced, choice, alone}
+use Rattle.argo_laws.proofs.Rings.{made_name, moves_to, choice, alone}
 
 -- a ring started in a step
 pub record Begun (t : Transition) (name : RingName) (f : RingKey × Ring) : Type 0 where
@@ -56,7 +53,8 @@ pub record IsQuiet (t : Transition) (name : RingName) : Type 0 where
 pub gone_on : (t : Transition) (name : RingName) (e f : RingKey × Ring) → IsQuiet t name → e.1.clean ≡ true → f.1.untaken ≡ e.1.untaken → GoneOn t name e f
 gone_on t name e f q clean same =
     record {
-      starts = q.starts; clean = clean;
+      starts = q.starts;
+      clean = clean;
       few = let k = q.takes in omega arith;
       untaken = same ∙ sym (append-nil e.1.untaken) ∙ ap (λ k. drop k e.1.untaken ++ []) (sym q.takes) ∙ ap (λ (o : Option Message). drop (taken_by_step name t) e.1.untaken ++ option_to_list o) (sym q.brings);
     }

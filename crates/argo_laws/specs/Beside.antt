@@ -1,5 +1,5 @@
 -- What else holds of every ring that stands, and which rings start clean.
-use Rattle.std.specs.Prelude.{◌≡◌, ℕ, ◌+◌, ◌≤◌, ◌↔◌, true, IsTrue, length}
+use Rattle.std.specs.Prelude.{◌≡◌, ◌+◌, ◌≤◌, ◌↔◌, true, IsTrue, length}
 use Rattle.argo_base.specs.Slots.{is_legal}
 use Rattle.argo_model.specs.Rules.Matches.{RingAt}
 use Rattle.argo_model.specs.Rules.RingBytes.{PagedRing, rx_word, tx_word}
