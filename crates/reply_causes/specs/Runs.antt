@@ -57,8 +57,8 @@ ReplyIsLast [] = Unit {0}
 ReplyIsLast (t ∷ []) = Unit {0}
 ReplyIsLast (t ∷ u ∷ ts) = (t.step.reply ≡ None) × ReplyIsLast (u ∷ ts)
 
--- of a run: its transitions are its steps, each of a line of the script; those of each line are by the rules, the next actions of its program; a reply ends its line;
--- and each reply of a line that its section may have has its cause
+-- of a run: its transitions are its steps, each of a line of the script; those of each line are by the rules, the next actions of its
+-- program; a reply ends its line; and each reply of a line that its section may have has its cause
 pub record RepliesHaveCauses (s : Script) (schedule : List ℕ) : Type 0 where
   pub steps : map (λ t. t.step) (transitions_of s schedule) ≡ (run s schedule).steps
   pub lines : (i : ℕ) → IfSome (slice_get (transitions_of s schedule) i) (IsOfLine s)
