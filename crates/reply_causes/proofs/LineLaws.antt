@@ -12,16 +12,17 @@ use Rattle.argo_model.specs.declared.reply.Reply.{Reply}
 use Rattle.argo_model.specs.declared.action.Action.{Action}
 use Rattle.argo_model.specs.Rules.State.{State}
 use Rattle.argo_model.specs.Rules.Act.{act}
-use Rattle.argo_model.specs.Programs.Program.{Command, RegisterRing, UnregisterRing, SendV, Notify, Unknown, command_of, program, op, Rests}
+use Rattle.argo_model.specs.Programs.Program.{Command, RegisterRing, UnregisterRing, SendV, Notify, Unknown, command_of, program, op, caller_of, Rests}
 use Rattle.argo_model.specs.Programs.Asks.{Next, Do, Say}
 use Rattle.argo_model.specs.Runs.Script.{Script, Section}
 use Rattle.argo_model.specs.Runs.Run.{Progress, Turn, Course, turn, turn_at, turn_by, turn_to, after_turn, step, start, at_first_line}
 use Rattle.argo_model.specs.Laws.Transitions.{Transition, transition_of, transition_at, transitions_from, transitions_of_line}
 use Rattle.reply_causes.specs.Plays.{Plays, PlaysTo, reply_in}
 use Rattle.reply_causes.specs.Tables.{states_of, unless_lost}
-use Rattle.reply_causes.specs.Causes.{cause_of_op}
-use Rattle.reply_causes.specs.Runs.{IsOfLine, steps_of_line, IfLine, is_line_of, CallHasCause, HasCause, ReplyIsLast, AllRepliesHaveCauses}
+use Rattle.reply_causes.specs.Causes.{cause_of_op, cause_of_line}
+use Rattle.reply_causes.specs.Runs.{IsOfLine, LineHasCause, steps_of_line, IfLine, is_line_of, CallHasCause, HasCause, ReplyIsLast, AllRepliesHaveCauses}
 use Rattle.reply_causes.proofs.ControlLaws.{destroys_have_causes, resets_have_causes, creates_have_causes}
+use Rattle.reply_causes.proofs.GoneLaws.{lost_exactly_where_away}
 use Rattle.reply_causes.proofs.MemoryLaws.{stores_have_causes, loads_have_causes, awaits_have_causes}
 use Rattle.reply_causes.proofs.NotifyLaws.{notifies_have_causes}
 use Rattle.reply_causes.proofs.RecvLaws.{recvs_have_causes}
@@ -43,24 +44,30 @@ call_has_cause Notify d generation a1 a2 a3 a4 ts r h = (notifies_have_causes d 
 call_has_cause Unknown d generation a1 a2 a3 a4 ts r h = (unknown-cause d generation a1 a2 a3 a4 ts r h, tt)
 
 -- a line that the section may have
-line_has_cause : (actor : Actor) (line : Line) (ts : List Transition) (r : Reply) → IsTrue (is_line_of actor line) → PlaysTo actor (program actor line) ts r → HasCause actor line ts r
-line_has_cause (Vcpu d generation) (Store at bytes) ts r may h = record { reply = stores_have_causes d generation at bytes ts r h; done = tt }
-line_has_cause (Vcpu d generation) (Load at n) ts r may h = record { reply = loads_have_causes d generation at n ts r h; done = tt }
+line_has_cause : (actor : Actor) (line : Line) (ts : List Transition) (r : Reply) → IsTrue (is_line_of actor line) → PlaysTo actor (program actor line) ts r
+    → (r ≡ unless_lost ts (cause_of_line (caller_of actor) line (states_of ts))) × LineHasCause (caller_of actor) line ts r
+line_has_cause (Vcpu d generation) (Store at bytes) ts r may h = (stores_have_causes d generation at bytes ts r h, tt)
+line_has_cause (Vcpu d generation) (Load at n) ts r may h = (loads_have_causes d generation at n ts r h, tt)
 line_has_cause (Vcpu d generation) (Op c a1 a2 a3 a4) ts r may h =
-    let has = call_has_cause (command_of c) d generation a1 a2 a3 a4 ts r h in record { reply = has.0; done = has.1 }
-line_has_cause (Vcpu d generation) (Await turns) ts r may h = record { reply = awaits_have_causes d generation turns ts r h; done = tt }
-line_has_cause (Vcpu d generation) (Recv page len) ts r may h = record { reply = recvs_have_causes d generation page len ts r h; done = tt }
-line_has_cause (Vcpu d generation) (Destroy dom) ts r may h = record { reply = destroys_have_causes (Vcpu d generation) dom ts r h; done = tt }
-line_has_cause (Vcpu d generation) (Reset dom) ts r may h = record { reply = resets_have_causes (Vcpu d generation) dom ts r h; done = tt }
-line_has_cause (Vcpu d generation) (Create dom) ts r may h = record { reply = creates_have_causes (Vcpu d generation) dom ts r h; done = tt }
-line_has_cause Control (Destroy dom) ts r may h = record { reply = destroys_have_causes Control dom ts r h; done = tt }
-line_has_cause Control (Reset dom) ts r may h = record { reply = resets_have_causes Control dom ts r h; done = tt }
-line_has_cause Control (Create dom) ts r may h = record { reply = creates_have_causes Control dom ts r h; done = tt }
+    call_has_cause (command_of c) d generation a1 a2 a3 a4 ts r h
+line_has_cause (Vcpu d generation) (Await turns) ts r may h = (awaits_have_causes d generation turns ts r h, tt)
+line_has_cause (Vcpu d generation) (Recv page len) ts r may h = (recvs_have_causes d generation page len ts r h, tt)
+line_has_cause (Vcpu d generation) (Destroy dom) ts r may h = (destroys_have_causes (Vcpu d generation) dom ts r h, tt)
+line_has_cause (Vcpu d generation) (Reset dom) ts r may h = (resets_have_causes (Vcpu d generation) dom ts r h, tt)
+line_has_cause (Vcpu d generation) (Create dom) ts r may h = (creates_have_causes (Vcpu d generation) dom ts r h, tt)
+line_has_cause Control (Destroy dom) ts r may h = (destroys_have_causes Control dom ts r h, tt)
+line_has_cause Control (Reset dom) ts r may h = (resets_have_causes Control dom ts r h, tt)
+line_has_cause Control (Create dom) ts r may h = (creates_have_causes Control dom ts r h, tt)
 line_has_cause Control (Store at bytes) ts r may h = absurd (let no : ⊥ = cc in no)
 line_has_cause Control (Load at n) ts r may h = absurd (let no : ⊥ = cc in no)
 line_has_cause Control (Op c a1 a2 a3 a4) ts r may h = absurd (let no : ⊥ = cc in no)
 line_has_cause Control (Await turns) ts r may h = absurd (let no : ⊥ = cc in no)
 line_has_cause Control (Recv page len) ts r may h = absurd (let no : ⊥ = cc in no)
+
+has_cause : (actor : Actor) (line : Line) (ts : List Transition) (r : Reply) → IsTrue (is_line_of actor line) → PlaysTo actor (program actor line) ts r → HasCause actor line ts r
+has_cause actor line ts r may h =
+    let has = line_has_cause actor line ts r may h in
+    record { lost = lost_exactly_where_away actor (program actor line) ts h.plays; reply = has.0; done = has.1 }
 
 -- a reply ends its line
 reply_is_last : (actor : Actor) (k : Rests) (ts : List Transition) → Plays actor k ts → ReplyIsLast ts
@@ -219,5 +226,5 @@ all_replies_have_causes s schedule =
       rules = λ v k. if_line s v k _ (λ x line here there. line-plays s schedule v k x line here there);
       last = λ v k. if_line s v k _ (λ x line here there. reply_is_last x.actor (program x.actor line) (steps_of_line s schedule v k) (line-plays s schedule v k x line here there));
       causes = λ v k r replies. if_line s v k _ (λ x line here there. λ may.
-          line_has_cause x.actor line (steps_of_line s schedule v k) r may (record { plays = line-plays s schedule v k x line here there; replies = replies }));
+          has_cause x.actor line (steps_of_line s schedule v k) r may (record { plays = line-plays s schedule v k x line here there; replies = replies }));
     }
