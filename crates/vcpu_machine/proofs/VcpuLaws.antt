@@ -19,7 +19,7 @@ use Rattle.argo_model.specs.Rules.State.{State}
 use Rattle.argo_model.specs.Runs.Run.{Progress, Turn, turn, turn_at, turn_by, turn_to}
 use Rattle.argo_model.specs.Runs.Script.{Section, turns_of}
 use Rattle.vcpu_machine.specs.declared.phase.Phase.{Phase}
-use Rattle.vcpu_machine.specs.declared.phase.Phase.TheVariants.{Reading, Writing, Asking, Receiving, Ended}
+use Rattle.vcpu_machine.specs.declared.phase.Phase.TheVariants.{Reading, Writing, Asking, Looking, Receiving, Ended}
 use Rattle.vcpu_machine.specs.Phase.{rest_of, IsAtPhase, GoesOnAlike, HasRoom, phase_left, is_line_for}
 use Rattle.vcpu_machine.specs.Steps.{most_steps}
 use Rattle.vcpu_machine.specs.Vcpu.{VcpuAt, lines_left, ahead_of, ahead, left_of, reply_in, StandsFor, StandsAt, progress_after, Begun, GoesOn, Fed, TakesTurn, IsAtLine, NeedsNoCaller, IsOwn, IsOwnAt, HasRoomIf, IsVcpu, Begins}
@@ -32,6 +32,7 @@ pub at_phase_does : (line : Line) (phase : Phase) → IsAtPhase line phase → (
 at_phase_does line (Reading c got reader) h = collect-does c _ _ _ h.some h.sound
 at_phase_does line (Writing c text) h = put_all-does c _ _ _ h.some h.sound
 at_phase_does line (Asking q) h = (_, refl)
+at_phase_does line (Looking later) h = (_, refl)
 at_phase_does line (Receiving r) h = (h.next.0, h.next.2 say_found)
 at_phase_does line Ended h = absurd h
 
@@ -40,6 +41,7 @@ pub at_phase_left : (line : Line) (phase : Phase) → IsAtPhase line phase → 0
 at_phase_left line (Reading c got reader) h = let some = some_piece c h.some h.sound in omega (arith, some)
 at_phase_left line (Writing c text) h = let some = some_piece c h.some h.sound in omega (arith, some)
 at_phase_left line (Asking q) h = omega arith
+at_phase_left line (Looking later) h = omega arith
 at_phase_left line (Receiving r) h = h.left
 at_phase_left line Ended h = absurd h
 
