@@ -10,4 +10,5 @@ pub mod ReceivingLaws
 pub mod RegisterLaws
 pub mod SendLaws
 pub mod TestLaws
+pub mod TurnLaws
 pub mod VcpuLaws

@@ -1,5 +1,5 @@
 -- Laws of phases that an outcome moves on.
-use Rattle.std.proofs.Common.{ℕ, Vec, Global, Some, None, ◌+◌, List, length, subst, sym, ◌∙◌, arith}
+use Rattle.std.proofs.Common.{ℕ, Vec, Global, Some, None, List, length, subst, sym, ◌∙◌, arith}
 use Rattle.vcpu_machine.specs.declared.cursor.Cursor.{Cursor}
 use Rattle.argo_model.specs.declared.line.Line.{Line}
 use Rattle.argo_model.specs.declared.action.Outcome.{Outcome}

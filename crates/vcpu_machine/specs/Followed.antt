@@ -71,8 +71,8 @@ abbrev pub ReceiveFollows : Receiving → Outcome → Option Followed → Receiv
 ReceiveFollows r outcome o after = (line : Line) → Follows line (Library r) outcome o (Library after)
 
 -- and one that fetches
-abbrev pub FetchFollows : Cursor → Vec ℕ Global → Reader → Outcome → Option Followed → Cursor → Vec ℕ Global → Reader → Type 0
-FetchFollows c got reader outcome o later new_got new_reader =
+abbrev pub Fetches : Cursor → Vec ℕ Global → Reader → Outcome → Option Followed → Cursor → Vec ℕ Global → Reader → Type 0
+Fetches c got reader outcome o later new_got new_reader =
     (line : Line) → Follows line (Reading c got reader) outcome o (Reading later new_got new_reader)
 
 -- all of these pieces are to be fetched

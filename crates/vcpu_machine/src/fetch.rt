@@ -7,7 +7,7 @@ ghost use Rattle.argo_model.specs.Programs.Asks.{Do, Rests};
 ghost use Rattle.vcpu_machine.specs.Ranges.{FetchesFirst, HasRoomFor, GivesFirst};
 ghost use Rattle.vcpu_machine.specs.Reader.{HasSize};
 ghost use Rattle.vcpu_machine.specs.Phase.{IsReading};
-ghost use Rattle.vcpu_machine.specs.Followed.{FetchFollows};
+ghost use Rattle.vcpu_machine.specs.Followed.{Fetches};
 
 use crate::cursor::Cursor;
 use crate::phase::{Followed, Reader};
@@ -42,7 +42,7 @@ pub(crate) fn fetched(
     requires at_phase { IsReading rest.old (length got.old.items) reader.old }
     requires room { HasRoomFor rest.old got.old }
     requires first { GivesFirst rest.old outcome.now }
-    ensures { FetchFollows rest.old got.old reader.old outcome.now result rest.new got.new reader.new }
+    ensures { Fetches rest.old got.old reader.old outcome.now result rest.new got.new reader.new }
 {
     match fetch_moved(rest, got, outcome) {
         Moved::More => None,
