@@ -2,6 +2,7 @@ pub mod FitLaws
 pub mod LeadLaws
 pub mod LineLaws
 pub mod ListLaws
+pub mod LookLaws
 pub mod MovedLaws
 pub mod NotifyLaws
 pub mod RangeLaws
@@ -9,4 +10,5 @@ pub mod ReceivingLaws
 pub mod RegisterLaws
 pub mod SendLaws
 pub mod TestLaws
+pub mod TurnLaws
 pub mod VcpuLaws

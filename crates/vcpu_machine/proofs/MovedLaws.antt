@@ -1,12 +1,12 @@
 -- Laws of phases that an outcome moves on.
-use Rattle.std.proofs.Common.{ℕ, Vec, Global, ◌+◌, List, length, subst, sym, ◌∙◌, arith}
+use Rattle.std.proofs.Common.{ℕ, Vec, Global, Some, None, List, length, subst, sym, ◌∙◌, arith}
 use Rattle.vcpu_machine.specs.declared.cursor.Cursor.{Cursor}
 use Rattle.argo_model.specs.declared.line.Line.{Line}
 use Rattle.argo_model.specs.declared.action.Outcome.{Outcome}
 use Rattle.vcpu_machine.specs.declared.ranges.Moved.TheVariants.{More, Whole, Failed}
+use Rattle.vcpu_machine.specs.declared.phase.Phase.{Phase}
 use Rattle.vcpu_machine.specs.declared.phase.Phase.TheVariants.{Reading, Writing}
 use Rattle.vcpu_machine.specs.declared.phase.Followed.{Followed}
-use Rattle.vcpu_machine.specs.declared.phase.Followed.TheVariants.{To}
 use Rattle.vcpu_machine.specs.declared.phase.Text.{Text}
 use Rattle.vcpu_machine.specs.declared.phase.Reader.{Reader}
 use Rattle.vcpu_machine.specs.Ranges.{PutMoves, FetchMoves, IsNearer, IsCounted}
@@ -17,9 +17,9 @@ use Rattle.vcpu_machine.specs.Followed.{Leads, Follows}
 use Rattle.vcpu_machine.proofs.RangeLaws.{some_piece}
 
 -- the last piece of a text is put
-pub put_whole : (line : Line) (c d : Cursor) (text : Text) (o : Outcome) (on : Followed) → IsWriting line c text → PutMoves c o Whole d
-    → Leads (after_put text) (most_after_put text) on → Follows line (Writing c text) o on
-put_whole line c d text o on at moves h = record {
+pub put_whole : (line : Line) (c d : Cursor) (text : Text) (o : Outcome) (on : Followed) (stays : Phase) → IsWriting line c text → PutMoves c o Whole d
+    → Leads (after_put text) (most_after_put text) on → Follows line (Writing c text) o (Some on) stays
+put_whole line c d text o on stays at moves h = record {
   rest = λ os. moves (text_of line text) (if_not_put text) (after_put text) os at.size ∙ h.rest line os;
   ready = h.ready line;
   nearer = let some = some_piece c at.some at.sound in let few = h.few in omega (arith, some);
@@ -28,7 +28,7 @@ put_whole line c d text o on at moves h = record {
 -- a piece of a range is fetched, and others are to come
 pub fetch_more : (line : Line) (c d : Cursor) (got : Vec ℕ Global) (new : Vec ℕ Global) (reader : Reader) (o : Outcome) → IsReading c (length got.items) reader
     → FetchMoves c got.items o More d new.items → IsNearer More c d → IsCounted More (length got.items) c.left (length new.items) d.left
-    → Follows line (Reading c got reader) o (To (Reading d new reader))
+    → Follows line (Reading c got reader) o None (Reading d new reader)
 fetch_more line c d got new reader o at moves nearer counted = record {
   rest = λ os. moves (after_fault reader) (after_read reader) os;
   ready = record {
@@ -41,18 +41,18 @@ fetch_more line c d got new reader o at moves nearer counted = record {
 }
 
 -- the last piece of a range is fetched
-pub fetch_whole : (line : Line) (c d : Cursor) (got : Vec ℕ Global) (new : List ℕ) (reader : Reader) (o : Outcome) (on : Followed) → IsReading c (length got.items) reader
-    → FetchMoves c got.items o Whole d new → Leads (after_read reader new) (most_after reader) on → Follows line (Reading c got reader) o on
-fetch_whole line c d got new reader o on at moves h = record {
+pub fetch_whole : (line : Line) (c d : Cursor) (got : Vec ℕ Global) (new : List ℕ) (reader : Reader) (o : Outcome) (on : Followed) (stays : Phase) → IsReading c (length got.items) reader
+    → FetchMoves c got.items o Whole d new → Leads (after_read reader new) (most_after reader) on → Follows line (Reading c got reader) o (Some on) stays
+fetch_whole line c d got new reader o on stays at moves h = record {
   rest = λ os. moves (after_fault reader) (after_read reader) os ∙ h.rest line os;
   ready = h.ready line;
   nearer = let some = some_piece c at.some at.sound in let few = h.few in omega (arith, some);
 }
 
 -- a piece of a range is not there
-pub fetch_failed : (line : Line) (c d : Cursor) (got : Vec ℕ Global) (new : List ℕ) (reader : Reader) (o : Outcome) (on : Followed) → IsReading c (length got.items) reader
-    → FetchMoves c got.items o Failed d new → Leads (after_fault reader) (most_after reader) on → Follows line (Reading c got reader) o on
-fetch_failed line c d got new reader o on at moves h = record {
+pub fetch_failed : (line : Line) (c d : Cursor) (got : Vec ℕ Global) (new : List ℕ) (reader : Reader) (o : Outcome) (on : Followed) (stays : Phase) → IsReading c (length got.items) reader
+    → FetchMoves c got.items o Failed d new → Leads (after_fault reader) (most_after reader) on → Follows line (Reading c got reader) o (Some on) stays
+fetch_failed line c d got new reader o on stays at moves h = record {
   rest = λ os. moves (after_fault reader) (after_read reader) os ∙ h.rest line os;
   ready = h.ready line;
   nearer = let some = some_piece c at.some at.sound in let few = h.few in omega (arith, some);

@@ -1,7 +1,13 @@
 -- Where a line goes after an outcome.
-use Rattle.std.specs.Prelude.{◌≡◌, ℕ, ◌+◌, ◌<◌, ◌≤◌, List, [], ◌∷◌, length}
+use Rattle.std.specs.Prelude.{◌≡◌, ℕ, ◌+◌, ◌<◌, ◌≤◌, List, [], ◌∷◌, length, Option, Some, None, Vec}
+use Rattle.std.specs.declared.alloc.Global.{Global}
 use Rattle.argo_base.specs.declared.piece.Piece.{Piece}
+use Rattle.vcpu_machine.specs.declared.cursor.Cursor.{Cursor}
 use Rattle.vcpu_machine.specs.declared.phase.Phase.{Phase}
+use Rattle.vcpu_machine.specs.declared.phase.Phase.TheVariants.{Reading, Writing, Asking, Receiving as Library}
+use Rattle.vcpu_machine.specs.declared.phase.Question.{Question}
+use Rattle.vcpu_machine.specs.declared.phase.Text.{Text}
+use Rattle.guest_lib.specs.Receiving.{Receiving}
 use Rattle.vcpu_machine.specs.declared.phase.Followed.{Followed}
 use Rattle.vcpu_machine.specs.declared.phase.Followed.TheVariants.{To, Over}
 use Rattle.vcpu_machine.specs.declared.phase.Reader.{Reader}
@@ -33,11 +39,41 @@ pub record Leads (k : Rests) (most : ℕ) (o : Followed) : Type 0 where
   pub ready : (line : Line) → IsFollowed line o
   pub few : followed_left o ≤ most
 
--- a line that was at a phase goes on there after an outcome
-pub record Follows (line : Line) (old : Phase) (outcome : Outcome) (o : Followed) : Type 0 where
-  pub rest : (os : List Outcome) → rest_of line old (outcome ∷ os) ≡ rest_followed line o os
-  pub ready : IsFollowed line o
-  pub nearer : followed_left o < phase_left old
+-- where it goes nowhere, the line goes on from the phase at which it stays
+abbrev pub rest_turned : Line → Phase → Option Followed → Rests
+rest_turned line stays None os = rest_of line stays os
+rest_turned line stays (Some o) os = rest_followed line o os
+
+abbrev pub IsTurned : Line → Phase → Option Followed → Type 0
+IsTurned line stays None = IsAtPhase line stays
+IsTurned line stays (Some o) = IsFollowed line o
+
+abbrev pub turned_left : Phase → Option Followed → ℕ
+turned_left stays None = phase_left stays
+turned_left stays (Some o) = followed_left o
+
+-- a line that was at a phase goes on there after an outcome, or from the phase at which it stays
+pub record Follows (line : Line) (old : Phase) (outcome : Outcome) (o : Option Followed) (stays : Phase) : Type 0 where
+  pub rest : (os : List Outcome) → rest_of line old (outcome ∷ os) ≡ rest_turned line stays o os
+  pub ready : IsTurned line stays o
+  pub nearer : turned_left stays o < phase_left old
+
+-- and so does one that puts
+abbrev pub PutFollows : Line → Text → Cursor → Outcome → Option Followed → Cursor → Type 0
+PutFollows line text c outcome o later = Follows line (Writing c text) outcome o (Writing later text)
+
+-- one that asks, whichever line it is, and stays nowhere
+abbrev pub AskFollows : Question → Outcome → Followed → Type 0
+AskFollows q outcome o = (line : Line) (stays : Phase) → Follows line (Asking q) outcome (Some o) stays
+
+-- one that the library works through
+abbrev pub ReceiveFollows : Receiving → Outcome → Option Followed → Receiving → Type 0
+ReceiveFollows r outcome o after = (line : Line) → Follows line (Library r) outcome o (Library after)
+
+-- and one that fetches
+abbrev pub Fetches : Cursor → Vec ℕ Global → Reader → Outcome → Option Followed → Cursor → Vec ℕ Global → Reader → Type 0
+Fetches c got reader outcome o later new_got new_reader =
+    (line : Line) → Follows line (Reading c got reader) outcome o (Reading later new_got new_reader)
 
 -- all of these pieces are to be fetched
 pub record Reads (ps : List Piece) (reader : Reader) (phase : Phase) : Type 0 where

@@ -3,7 +3,7 @@ use Rattle.std.specs.Prelude.{◌≡◌, ℕ, ◌+◌, ◌-◌, min, ◌<◌, �
 use Rattle.vcpu_machine.specs.declared.cursor.Cursor.{Cursor}
 use Rattle.vcpu_machine.specs.Cursor.{pieces_left, IsSound}
 use Rattle.vcpu_machine.specs.declared.phase.Phase.{Phase}
-use Rattle.vcpu_machine.specs.declared.phase.Phase.TheVariants.{Reading, Writing, Asking, Receiving, Ended}
+use Rattle.vcpu_machine.specs.declared.phase.Phase.TheVariants.{Reading, Writing, Asking, Looking, Receiving, Ended}
 use Rattle.vcpu_machine.specs.declared.phase.Reader.{Reader}
 use Rattle.vcpu_machine.specs.declared.phase.Text.{Text}
 use Rattle.argo_model.specs.declared.line.Line.{Line}
@@ -14,7 +14,7 @@ use Rattle.argo_model.specs.declared.action.Outcome.{Outcome}
 use Rattle.argo_model.specs.declared.reply.Reply.{Reply}
 use Rattle.argo_model.specs.Runs.Script.{is_vcpu_line, is_control_line}
 use Rattle.vcpu_machine.specs.Ranges.{last_of, collect}
-use Rattle.argo_model.specs.Programs.Program.{Next, Do, Say, Rests, ask, put_all, program}
+use Rattle.argo_model.specs.Programs.Program.{Next, Do, Say, Rests, ask, put_all, if_flag, await, program}
 use Rattle.argo_model.specs.Programs.Recv.{say_found}
 use Rattle.guest_lib.specs.Receiving.{ahead, IsUnderWay, left_of}
 use Rattle.vcpu_machine.specs.Reader.{after_read, after_fault, HasSize, IsReader, most_after}
@@ -26,6 +26,7 @@ abbrev pub rest_of : Line → Phase → Rests
 rest_of line (Reading c got reader) os = collect (pieces_left c) got.items (after_fault reader) (after_read reader) os
 rest_of line (Writing c text) os = put_all (pieces_left c) (last_of c.left (text_of line text)) (if_not_put text) (after_put text) os
 rest_of line (Asking q) os = ask (action_of q) (answered_by q) os
+rest_of line (Looking later) os = ask Look (if_flag (await later)) os
 rest_of line (Receiving r) os = ahead say_found r os
 rest_of line Ended os = Do Rest
 
@@ -48,6 +49,7 @@ abbrev pub IsAtPhase : Line → Phase → Type 0
 IsAtPhase line (Reading c got reader) = IsReading c (length got.items) reader
 IsAtPhase line (Writing c text) = IsWriting line c text
 IsAtPhase line (Asking q) = IsQuestion q
+IsAtPhase line (Looking later) = Unit {0}
 IsAtPhase line (Receiving r) = IsUnderWay r
 IsAtPhase line Ended = ⊥
 
@@ -62,6 +64,7 @@ abbrev pub HasRoom : Phase → Type 0
 HasRoom (Reading c got reader) = vec_len got + min c.left (4096 - c.off) ≤ vec_capacity got
 HasRoom (Writing c text) = Unit {0}
 HasRoom (Asking q) = Unit {0}
+HasRoom (Looking later) = Unit {0}
 HasRoom (Receiving r) = IsTrue r.ready
 HasRoom Ended = Unit {0}
 
@@ -70,6 +73,7 @@ abbrev pub phase_left : Phase → ℕ
 phase_left (Reading c got reader) = length (pieces_left c) + most_after reader
 phase_left (Writing c text) = length (pieces_left c) + most_after_put text
 phase_left (Asking q) = most_after_answer q + 1
+phase_left (Looking later) = later + 1
 phase_left (Receiving r) = left_of r
 phase_left Ended = 0
 

@@ -3,12 +3,11 @@ use Rattle.std.specs.Prelude.{◌≡◌, ℕ, ◌+◌, ◌*◌, length, IsTrue}
 use Rattle.argo_base.specs.Slots.{is_legal, page_count}
 use Rattle.argo_base.specs.Layout.{numbers_at}
 use Rattle.argo_model.specs.declared.action.Action.{Action}
-use Rattle.argo_model.specs.declared.action.Action.TheVariants.{Rest, Unregister, Sweep, Query, Look, Destroy, Reset, Create}
+use Rattle.argo_model.specs.declared.action.Action.TheVariants.{Rest, Unregister, Sweep, Query, Destroy, Reset, Create}
 use Rattle.argo_model.specs.declared.action.Outcome.{Outcome}
 use Rattle.vcpu_machine.specs.declared.phase.Question.{Question}
-use Rattle.vcpu_machine.specs.declared.phase.Question.TheVariants.{Refuse, Look as LookAgain, Destroy as ToDestroy, Reset as ToReset, Create as ToCreate, Unregister as ToUnregister, Register as ToRegister, Deliver as ToDeliver, Sweep as ToSweep, Query as ToQuery}
+use Rattle.vcpu_machine.specs.declared.phase.Question.TheVariants.{Refuse, Destroy as ToDestroy, Reset as ToReset, Create as ToCreate, Unregister as ToUnregister, Register as ToRegister, Deliver as ToDeliver, Sweep as ToSweep, Query as ToQuery}
 use Rattle.argo_model.specs.Programs.Asks.{Rests, refusal, say_done}
-use Rattle.argo_model.specs.Programs.Program.{if_flag, await}
 use Rattle.argo_model.specs.Programs.Send.{say_accepted}
 use Rattle.argo_model.specs.Programs.Notify.{if_swept, sweep_rings, notify_entries, if_answered, answer_entries}
 use Rattle.argo_model.specs.Rules.Fit.{is_fit_load}
@@ -19,7 +18,6 @@ use Rattle.vcpu_machine.specs.Entries.{entry_at, places_after, IsEntry, most_of_
 -- the action that asks
 abbrev pub action_of : Question → Action
 action_of (Refuse e) = Rest
-action_of (LookAgain later) = Look
 action_of (ToDestroy d) = Destroy d
 action_of (ToReset d) = Reset d
 action_of (ToCreate d) = Create d
@@ -32,7 +30,6 @@ action_of (ToQuery e to to_port need) = Query to to_port need
 -- what follows an outcome
 abbrev pub answered_by : Question → Outcome → Rests
 answered_by (Refuse e) o os = refusal e
-answered_by (LookAgain later) o os = if_flag (await later) o os
 answered_by (ToDestroy d) o os = say_done o os
 answered_by (ToReset d) o os = say_done o os
 answered_by (ToCreate d) o os = say_done o os
@@ -46,7 +43,6 @@ answered_by (ToQuery e to to_port need) o os = if_answered (entry_at e) (answer_
 -- a page list is as long as its ring wants it, and a load is fit
 abbrev pub IsQuestion : Question → Type 0
 IsQuestion (Refuse e) = Unit {0}
-IsQuestion (LookAgain later) = Unit {0}
 IsQuestion (ToDestroy d) = Unit {0}
 IsQuestion (ToReset d) = Unit {0}
 IsQuestion (ToCreate d) = Unit {0}
@@ -59,7 +55,6 @@ IsQuestion (ToQuery e to to_port need) = IsEntry e
 -- how many actions follow at most
 abbrev pub most_after_answer : Question → ℕ
 most_after_answer (Refuse e) = 0
-most_after_answer (LookAgain later) = later
 most_after_answer (ToDestroy d) = 0
 most_after_answer (ToReset d) = 0
 most_after_answer (ToCreate d) = 0

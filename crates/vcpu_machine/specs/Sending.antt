@@ -13,6 +13,7 @@ use Rattle.argo_model.specs.declared.action.Load.{Load}
 use Rattle.argo_model.specs.declared.action.Load.TheVariants.{Faulted, Refused as RefusedLoad}
 use Rattle.vcpu_machine.specs.declared.reads.Address.{Address}
 use Rattle.vcpu_machine.specs.declared.reads.Gather.{Gather}
+use Rattle.vcpu_machine.specs.declared.reads.SendArgs.{SendArgs}
 use Rattle.vcpu_machine.specs.declared.reads.SendRead.{SendRead}
 use Rattle.vcpu_machine.specs.declared.reads.SendRead.TheVariants.{Head, Iovs, Body}
 use Rattle.argo_model.specs.Programs.Asks.{Rests, ask, refusal}
@@ -84,32 +85,36 @@ gather_left g = length (gathered_pieces (iovs_left g)) + 1
 abbrev pub judge_iovs : Address → List Iov → Rests
 judge_iovs a iovs = send_judged_to a iovs (verdict_of iovs)
 
+-- the addresses are looked at
+abbrev pub head_of_send : SendArgs → List ℕ → Rests
+head_of_send a addr os = send_head a.caller a.iovs a.count a.kind addr os
+
 -- what follows the bytes
 abbrev pub after_send_read : SendRead → List ℕ → Rests
-after_send_read (Head caller iovs count kind) addr os = send_head caller iovs count kind addr os
+after_send_read (Head args) addr os = head_of_send args addr os
 after_send_read (Iovs count a) list os = judge_iovs a (iovs_at list count) os
 after_send_read (Body g) got os = gather_on g got os
 
 -- what follows a page that is not there: a refusal, but a gather is delivered as one that met a fault
 abbrev pub after_send_fault : SendRead → Rests
-after_send_fault (Head caller iovs count kind) os = refusal efault
+after_send_fault (Head args) os = refusal efault
 after_send_fault (Iovs count a) os = refusal efault
 after_send_fault (Body g) os = deliver_to g.address (Faulted g.size) os
 
 -- how many bytes there are
 abbrev pub send_size : SendRead → ℕ
-send_size (Head caller iovs count kind) = 16
+send_size (Head args) = 16
 send_size (Iovs count a) = 16 * count
 send_size (Body g) = g.size - g.later
 
 -- there are at most 8 iovs, and a gather is as it must be
 abbrev pub IsSendRead : SendRead → Type 0
-IsSendRead (Head caller iovs count kind) = count ≤ 8
+IsSendRead (Head args) = args.count ≤ 8
 IsSendRead (Iovs count a) = count ≤ 8
 IsSendRead (Body g) = IsGather g
 
 -- how many actions follow the bytes at most: a gather has at most 4,111 pieces
 abbrev pub most_after_send : SendRead → ℕ
-most_after_send (Head caller iovs count kind) = 4115
+most_after_send (Head args) = 4115
 most_after_send (Iovs count a) = 4112
 most_after_send (Body g) = gather_left g

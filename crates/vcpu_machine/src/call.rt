@@ -11,7 +11,7 @@ ghost use Rattle.vcpu_machine.specs.declared.phase.Followed.{Followed};
 use crate::cursor::Cursor;
 use crate::phase::{Phase, Question, Reader};
 use crate::reading::reading;
-use crate::reads::{MOST_IOVS, RegisterRead, SendRead};
+use crate::reads::{MOST_IOVS, RegisterRead, SendArgs, SendRead};
 use argo_base::{DomId, Errno};
 use argo_model::Actor;
 use std::alloc::Global;
@@ -73,12 +73,12 @@ impl Call {
         if (MOST_IOVS as u64) < self.a3 || 0x1_0000_0000 <= self.a4 {
             return refuse(Errno::Inval);
         }
-        let read = SendRead::Head {
+        let read = SendRead::Head(SendArgs {
             caller: self.caller,
             iovs: self.a2,
             count: self.a3 as u32,
             kind: self.a4 as u32,
-        };
+        });
         reading(alloc, Cursor::over(self.a1, 16), Reader::Send(read))
     }
 

@@ -7,14 +7,14 @@ ghost use Rattle.argo_model.specs.Programs.Asks.{Do, Rests};
 ghost use Rattle.vcpu_machine.specs.Ranges.{FetchesFirst, HasRoomFor, GivesFirst};
 ghost use Rattle.vcpu_machine.specs.Reader.{HasSize};
 ghost use Rattle.vcpu_machine.specs.Phase.{IsReading};
-ghost use Rattle.vcpu_machine.specs.Followed.{Follows};
-ghost use Rattle.argo_model.specs.declared.line.Line.{Line as AnyLine};
+ghost use Rattle.vcpu_machine.specs.Followed.{Fetches};
 
 use crate::cursor::Cursor;
-use crate::phase::{Followed, Phase, Reader};
+use crate::phase::{Followed, Reader};
 use crate::ranges::{Moved, fetch_moved};
 use argo_model::{Action, Outcome, Reply};
 use std::alloc::Global;
+use std::mem;
 
 /// The fetch of the first piece of what is left of a range.
 pub(crate) fn fetch_first(rest: Cursor) -> Action
@@ -31,25 +31,30 @@ pub(crate) fn fetch_first(rest: Cursor) -> Action
     }
 }
 
-/// Where a line goes that fetches, with an outcome of the first piece.
+/// Where a line goes that fetches, with an outcome of the first piece; nowhere while others are to come.
 pub(crate) fn fetched(
     alloc: Global,
-    rest: Cursor,
-    got: Vec<u8>,
-    reader: Reader,
+    rest: &mut Cursor,
+    got: &mut Vec<u8>,
+    reader: &mut Reader,
     outcome: &Outcome,
-) -> Followed
-    requires at_phase { IsReading rest (length got.items) reader }
-    requires room { HasRoomFor rest got }
-    requires first { GivesFirst rest outcome.now }
-    ensures { (line : AnyLine) → Follows line (Phase.Reading rest got reader) outcome.now result }
+) -> Option<Followed>
+    requires at_phase { IsReading rest.old (length got.old.items) reader.old }
+    requires room { HasRoomFor rest.old got.old }
+    requires first { GivesFirst rest.old outcome.now }
+    ensures { Fetches rest.old got.old reader.old outcome.now result rest.new got.new reader.new }
 {
-    let mut rest = rest;
-    let mut got = got;
-    match fetch_moved(&mut rest, &mut got, outcome) {
-        Moved::More => Followed::To(Phase::Reading { rest, got, reader }),
-        Moved::Whole => reader.used(alloc, got),
-        Moved::Failed => reader.failed(),
-        Moved::Ended => Followed::Over(Reply::Gone),
+    match fetch_moved(rest, got, outcome) {
+        Moved::More => None,
+        Moved::Whole => {
+            let reader = mem::replace(reader, Reader::Show);
+            let got = mem::replace(got, Vec::new(alloc));
+            Some(reader.used(alloc, got))
+        }
+        Moved::Failed => {
+            let reader = mem::replace(reader, Reader::Show);
+            Some(reader.failed())
+        }
+        Moved::Ended => Some(Followed::Over(Reply::Gone)),
     }
 }

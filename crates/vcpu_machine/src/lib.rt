@@ -11,6 +11,7 @@ mod cursor;
 mod fetch;
 mod layout;
 mod line;
+mod looking;
 mod notify;
 mod phase;
 mod question;

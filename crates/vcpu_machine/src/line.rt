@@ -7,6 +7,7 @@ ghost use Rattle.argo_model.specs.Programs.Program.{Do};
 use crate::call::{Call, caller_of};
 use crate::cursor::Cursor;
 use crate::fetch::{fetch_first, fetched};
+use crate::looking::looked;
 use crate::phase::{Followed, Phase, Question, Reader, Text};
 use crate::reading::reading;
 use crate::receiving::received;
@@ -14,7 +15,6 @@ use argo_base::NoMemory;
 use argo_model::{Action, Actor, Line, Outcome, Reply};
 use guest_lib::Recv;
 use std::alloc::Global;
-use std::mem;
 
 impl Phase {
     ghost use Rattle.vcpu_machine.specs.Steps.{most_steps};
@@ -45,7 +45,7 @@ impl Phase {
                 };
                 call.start(alloc, *c)
             }
-            Line::Await { turns } => Phase::Asking(Question::Look { later: *turns - 1 }),
+            Line::Await { turns } => Phase::Looking { later: *turns - 1 },
             Line::Recv { page, len } => Phase::Receiving(Recv::start(alloc, *page, *len)),
             Line::Destroy { dom } => Phase::Asking(Question::Destroy(*dom)),
             Line::Reset { dom } => Phase::Asking(Question::Reset(*dom)),
@@ -70,6 +70,7 @@ impl Phase {
             }
             Phase::Writing { rest, text } => text.put_first(alloc, line, *rest),
             Phase::Asking(question) => question.action(alloc),
+            Phase::Looking { .. } => Ok(Action::Look),
             Phase::Receiving(recv) => recv.next(),
             Phase::Ended => unreachable!(),
         }
@@ -84,8 +85,10 @@ impl Phase {
         ensures at_phase { IfNone result (IsAtPhase line.now self.new) }
         ensures nearer { IfNone result (phase_left self.new < phase_left self.old) }
     {
-        let phase = mem::replace(self, Phase::Ended);
-        match phase.fed(alloc, line, outcome) {
+        let Some(followed) = self.turned(alloc, line, outcome) else {
+            return None;
+        };
+        match followed {
             Followed::To(phase) => {
                 *self = phase;
                 None
@@ -94,17 +97,18 @@ impl Phase {
         }
     }
 
-    // Where the line goes with an outcome.
-    fn fed(self, alloc: Global, line: &Line, outcome: &Outcome) -> Followed
-        requires at_phase { IsAtPhase line.now self }
-        requires room { HasRoom self }
-        requires can { CanFollow (rest_of line.now self []) outcome.now }
-        ensures { Follows line.now self outcome.now result }
+    // Where the line goes with an outcome. Where it goes nowhere, the phase is moved on in place.
+    fn turned(&mut self, alloc: Global, line: &Line, outcome: &Outcome) -> Option<Followed>
+        requires at_phase { IsAtPhase line.now self.old }
+        requires room { HasRoom self.old }
+        requires can { CanFollow (rest_of line.now self.old []) outcome.now }
+        ensures { Follows line.now self.old outcome.now result self.new }
     {
         match self {
             Phase::Reading { rest, got, reader } => fetched(alloc, rest, got, reader, outcome),
             Phase::Writing { rest, text } => text.moved(alloc, line, rest, outcome),
-            Phase::Asking(question) => question.asked(alloc, outcome),
+            Phase::Asking(question) => Some(question.asked(alloc, outcome)),
+            Phase::Looking { later } => looked(later, outcome),
             Phase::Receiving(recv) => received(recv, outcome),
             Phase::Ended => unreachable!(),
         }

@@ -30,10 +30,6 @@ pub(crate) enum Text {
 pub(crate) enum Question {
     /// A rest before a refusal.
     Refuse(Errno),
-    /// A look at the flag, with so many to come.
-    Look {
-        later: u32,
-    },
     Destroy(DomId),
     Reset(DomId),
     Create(DomId),
@@ -80,6 +76,10 @@ pub(crate) enum Phase {
     },
     /// A single action is to come.
     Asking(Question),
+    /// A look at the flag is to come, and so many after it.
+    Looking {
+        later: u32,
+    },
     /// The guest's library takes a message.
     Receiving(Recv),
     /// No line is left.

@@ -4,7 +4,6 @@ ghost use Rattle.std.specs.Prelude.{◌≡◌, ◌+◌, IfOk, IsOk, IsTrue};
 ghost use Rattle.argo_model.specs.Rules.Fit.{is_fit};
 ghost use Rattle.argo_model.specs.Programs.Asks.{Do, say_done};
 ghost use Rattle.argo_model.specs.Programs.Send.{say_accepted};
-ghost use Rattle.argo_model.specs.Programs.Program.{if_flag, await};
 ghost use Rattle.vcpu_machine.specs.Notifying.{swept_on};
 ghost use Rattle.vcpu_machine.specs.Entries.{most_of_notify};
 ghost use Rattle.vcpu_machine.specs.Followed.{Leads};
@@ -19,9 +18,8 @@ use std::alloc::Global;
 
 impl Question {
     ghost use Rattle.vcpu_machine.specs.Question.{action_of, answered_by, IsQuestion, most_after_answer};
-    ghost use Rattle.vcpu_machine.specs.Followed.{Follows};
+    ghost use Rattle.vcpu_machine.specs.Followed.{AskFollows};
     ghost use Rattle.vcpu_machine.specs.Phase.{takes_none};
-    ghost use Rattle.argo_model.specs.declared.line.Line.{Line as AnyLine};
 
     /// The action, with copies of what it takes.
     pub(crate) fn action(&self, alloc: Global) -> Result<Action, NoMemory>
@@ -32,7 +30,6 @@ impl Question {
     {
         match self {
             Question::Refuse(_) => Ok(Action::Rest),
-            Question::Look { .. } => Ok(Action::Look),
             Question::Destroy(dom) => Ok(Action::Destroy { dom: *dom }),
             Question::Reset(dom) => Ok(Action::Reset { dom: *dom }),
             Question::Create(dom) => Ok(Action::Create { dom: *dom }),
@@ -63,9 +60,9 @@ impl Question {
     }
 
     /// Where a line goes that asks, with an outcome.
-    pub(crate) fn asked(self, alloc: Global, outcome: &Outcome) -> Followed
-        requires { IsQuestion self }
-        ensures { (line : AnyLine) → Follows line (Phase.Asking self) outcome.now result }
+    pub(crate) fn asked(&self, alloc: Global, outcome: &Outcome) -> Followed
+        requires { IsQuestion self.now }
+        ensures { AskFollows self.now outcome.now result }
     {
         match outcome {
             Outcome::Gone => Followed::Over(Reply::Gone),
@@ -74,15 +71,14 @@ impl Question {
     }
 
     // Where the line goes with an outcome other than `Gone`.
-    fn answered(self, alloc: Global, outcome: &Outcome) -> Followed
-        requires { IsQuestion self }
-        ensures { Leads (answered_by self outcome.now) (most_after_answer self) result }
+    fn answered(&self, alloc: Global, outcome: &Outcome) -> Followed
+        requires { IsQuestion self.now }
+        ensures { Leads (answered_by self.now outcome.now) (most_after_answer self.now) result }
     {
         match self {
-            Question::Refuse(e) => Followed::Over(refusal(e)),
-            Question::Look { later } => looked(outcome, later),
+            Question::Refuse(e) => Followed::Over(refusal(*e)),
             Question::Deliver { .. } => delivered(outcome),
-            Question::Sweep { base, later, .. } => swept(alloc, outcome, base, later),
+            Question::Sweep { base, later, .. } => swept(alloc, outcome, *base, *later),
             Question::Query { entry, .. } => entry.answered(alloc, outcome),
             _ => done(outcome),
         }
@@ -111,27 +107,6 @@ fn done(outcome: &Outcome) -> Followed
         Outcome::Refused(e) => Followed::Over(refusal(*e)),
         _ => Followed::Over(Reply::Number(0)),
     }
-}
-
-// After a look, with so many to come.
-fn looked(outcome: &Outcome, later: u32) -> Followed
-    ensures { Leads (if_flag (await later) outcome.now) later result }
-{
-    match outcome {
-        Outcome::Flag(true) => Followed::Over(Reply::Signal),
-        Outcome::Flag(false) => look(later),
-        _ => look(later),
-    }
-}
-
-// With so many looks to come.
-fn look(later: u32) -> Followed
-    ensures { Leads (await later) later result }
-{
-    if later == 0 {
-        return Followed::Over(Reply::NoSignal);
-    }
-    Followed::To(Phase::Asking(Question::Look { later: later - 1 }))
 }
 
 // After a delivery.

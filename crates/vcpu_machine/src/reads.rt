@@ -49,20 +49,21 @@ pub(crate) struct Gather {
     pub(crate) address: Address,
 }
 
+/// What a sendv is given besides its addresses: its caller, where the iovs are, how many they are, and the message's type.
+#[derive(Clone, Copy)]
+pub(crate) struct SendArgs {
+    pub(crate) caller: DomId,
+    pub(crate) iovs: u64,
+    pub(crate) count: u32,
+    pub(crate) kind: u32,
+}
+
 /// What a sendv reads.
 #[derive(Drop)]
 pub(crate) enum SendRead {
-    /// The addresses. The iovs are at `iovs`.
-    Head {
-        caller: DomId,
-        iovs: u64,
-        count: u32,
-        kind: u32,
-    },
-    Iovs {
-        count: u32,
-        address: Address,
-    },
+    /// The addresses.
+    Head(SendArgs),
+    Iovs { count: u32, address: Address },
     Body(Gather),
 }
 

@@ -3,11 +3,10 @@
 ghost use Rattle.std.specs.Prelude.{◌≡◌, ◌^◌, ◌<◌, length, take, IsTrue};
 ghost use Rattle.argo_model.specs.Programs.Asks.{Say};
 ghost use Rattle.argo_model.specs.Programs.Recv.{say_found};
-ghost use Rattle.argo_model.specs.declared.line.Line.{Line as AnyLine};
 ghost use Rattle.guest_lib.specs.Receiving.{IsUnderWay, CanFeed, IsShort, ended};
-ghost use Rattle.vcpu_machine.specs.Followed.{Follows};
+ghost use Rattle.vcpu_machine.specs.Followed.{ReceiveFollows};
 
-use crate::phase::{Followed, Phase};
+use crate::phase::Followed;
 use argo_base::Bytes;
 use argo_model::{Outcome, Reply};
 use guest_lib::{Received, Recv};
@@ -15,17 +14,16 @@ use guest_lib::{Received, Recv};
 /// The first bytes of a body, which a reply shows.
 const SHOWN_BYTES: usize = 64;
 
-/// Where the line goes with an outcome of the library's next action.
-pub(crate) fn received(recv: Recv, outcome: &Outcome) -> Followed
-    requires under_way { IsUnderWay recv }
-    requires ready { IsTrue recv.ready }
-    requires can { CanFeed recv outcome.now }
-    ensures { (line : AnyLine) → Follows line (Phase.Receiving recv) outcome.now result }
+/// Where the line goes with an outcome of the library's next action; nowhere while the library goes on.
+pub(crate) fn received(recv: &mut Recv, outcome: &Outcome) -> Option<Followed>
+    requires under_way { IsUnderWay recv.old }
+    requires ready { IsTrue recv.old.ready }
+    requires can { CanFeed recv.old outcome.now }
+    ensures { ReceiveFollows recv.old outcome.now result recv.new }
 {
-    let mut recv = recv;
     match recv.feed_by(outcome) {
-        None => Followed::To(Phase::Receiving(recv)),
-        Some(found) => Followed::Over(reply_of(found)),
+        None => None,
+        Some(found) => Some(Followed::Over(reply_of(found))),
     }
 }
 

@@ -3,15 +3,14 @@
 ghost use Rattle.std.specs.Prelude.{◌≡◌, ◌+◌, ◌*◌, ◌≤◌, length, take, IsTrue};
 ghost use Rattle.argo_base.specs.Iovs.{iov_at, iovs_at};
 ghost use Rattle.argo_model.specs.Rules.Fit.{is_fit_load};
-ghost use Rattle.argo_model.specs.Programs.Send.{send_head};
-ghost use Rattle.vcpu_machine.specs.Sending.{clear_pads, own_source, deliver_to, judge_iovs, IsNextBuffer};
+ghost use Rattle.vcpu_machine.specs.Sending.{clear_pads, own_source, head_of_send, deliver_to, judge_iovs, IsNextBuffer};
 ghost use Rattle.vcpu_machine.specs.Followed.{Leads};
 
 use crate::cursor::Cursor;
 use crate::layout::{iov, send_addr};
 use crate::phase::{Followed, Phase, Question, Reader};
 use crate::reading::{reading, refusal};
-use crate::reads::{Address, Gather, MOST_IOVS, SendRead};
+use crate::reads::{Address, Gather, MOST_IOVS, SendArgs, SendRead};
 use argo_abi::{Iov, SendAddr};
 use argo_base::{Bytes, DomId, Errno};
 use argo_model::{Action, Load};
@@ -52,12 +51,7 @@ impl SendRead {
         ensures { Leads (after_send_read self got.items) (most_after_send self) result }
     {
         match self {
-            SendRead::Head {
-                caller,
-                iovs,
-                count,
-                kind,
-            } => head(alloc, got, caller, iovs, count, kind),
+            SendRead::Head(args) => head(alloc, got, args),
             SendRead::Iovs { count, address } => judged(alloc, got, count, address),
             SendRead::Body(gather) => gather.go_on(got),
         }
@@ -121,30 +115,31 @@ fn deliver(address: Address, load: Load) -> Followed
 }
 
 // After the addresses.
-fn head(alloc: Global, got: Vec<u8>, caller: DomId, iovs: u64, count: u32, kind: u32) -> Followed
+fn head(alloc: Global, got: Vec<u8>, args: SendArgs) -> Followed
     requires size { length got.items ≡ 16 }
-    requires few { count ≤ 8 }
-    ensures { Leads (send_head caller iovs count kind got.items) 4115 result }
+    requires few { args.count ≤ 8 }
+    ensures { Leads (head_of_send args got.items) 4115 result }
 {
+    let count = args.count;
     let addr = send_addr(got.as_slice());
     if !has_no_pads(&addr) {
         return Followed::Over(refusal(Errno::Inval));
     }
-    if !has_own_source(caller, &addr) {
+    if !has_own_source(args.caller, &addr) {
         return Followed::Over(refusal(Errno::Perm));
     }
     let address = Address {
         port: addr.src.aport,
         to: DomId(addr.dst.domain_id),
         to_port: addr.dst.aport,
-        kind,
+        kind: args.kind,
     };
     if count == 0 {
         let mut none = got;
         none.clear();
         return judged(alloc, none, 0, address);
     }
-    let rest = Cursor::over(iovs, 16 * count);
+    let rest = Cursor::over(args.iovs, 16 * count);
     let reader = Reader::Send(SendRead::Iovs { count, address });
     Followed::To(reading(alloc, rest, reader))
 }

@@ -19,7 +19,7 @@ use std::alloc::Global;
 impl Text {
     ghost use Rattle.vcpu_machine.specs.Text.{text_of, after_put, if_not_put, IsText, most_after_put};
     ghost use Rattle.vcpu_machine.specs.Phase.{rest_of, IsWriting};
-    ghost use Rattle.vcpu_machine.specs.Followed.{Leads, Follows};
+    ghost use Rattle.vcpu_machine.specs.Followed.{Leads, PutFollows};
 
     /// The put of the first piece of what is left of a range.
     pub(crate) fn put_first(
@@ -41,30 +41,29 @@ impl Text {
         }
     }
 
-    /// Where a line goes that puts, with an outcome of the first piece.
+    /// Where a line goes that puts, with an outcome of the first piece; nowhere while others are to come.
     pub(crate) fn moved(
-        self,
+        &self,
         alloc: Global,
         line: &Line,
-        rest: Cursor,
+        rest: &mut Cursor,
         outcome: &Outcome,
-    ) -> Followed
-        requires { IsWriting line.now rest self }
-        ensures { Follows line.now (Phase.Writing rest self) outcome.now result }
+    ) -> Option<Followed>
+        requires { IsWriting line.now rest.old self.now }
+        ensures { PutFollows line.now self.now rest.old outcome.now result rest.new }
     {
-        let mut rest = rest;
-        match put_moved(&mut rest, outcome) {
-            Moved::More => Followed::To(Phase::Writing { rest, text: self }),
-            Moved::Whole => self.put(alloc),
-            Moved::Failed => Followed::Over(self.failed()),
-            Moved::Ended => Followed::Over(Reply::Gone),
+        match put_moved(rest, outcome) {
+            Moved::More => None,
+            Moved::Whole => Some(self.put(alloc)),
+            Moved::Failed => Some(Followed::Over(self.failed())),
+            Moved::Ended => Some(Followed::Over(Reply::Gone)),
         }
     }
 
     // Where the line goes when all is put.
-    fn put(self, alloc: Global) -> Followed
-        requires { IsText self }
-        ensures { Leads (after_put self) (most_after_put self) result }
+    fn put(&self, alloc: Global) -> Followed
+        requires { IsText self.now }
+        ensures { Leads (after_put self.now) (most_after_put self.now) result }
     {
         match self {
             Text::Stored => Followed::Over(Reply::Stored),
@@ -73,8 +72,8 @@ impl Text {
     }
 
     // The reply when a page is not there.
-    fn failed(self) -> Reply
-        ensures { Say result ≡ if_not_put self }
+    fn failed(&self) -> Reply
+        ensures { Say result ≡ if_not_put self.now }
     {
         match self {
             Text::Answer { .. } => refusal(Errno::Fault),

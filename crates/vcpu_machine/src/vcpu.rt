@@ -123,7 +123,8 @@ impl Vcpu {
         requires unfinished { self.old.done < length self.old.part.lines }
         requires section { slice_get (A.actors a.old) v ≡ Some self.old.part.actor }
         requires few { IsTrue (has_steps_left (A.totals a.old) v) }
-        ensures ok { IfOk result (λ r. TakesTurn (A.told a.old) self.old r.0 r.1 (A.told a.new) self.new) }
+        ensures ok { IfOk result
+            (λ r. TakesTurn (A.told a.old) self.old r.0 r.1 (A.told a.new) self.new) }
         ensures counts { IfOk result (λ r. A.totals a.new ≡ counted_at (A.totals a.old) v r.0) }
         ensures actors { A.actors a.new ≡ A.actors a.old }
         ensures err { OnErr result (GoesOn self.old self.new) }
@@ -150,7 +151,8 @@ impl Vcpu {
         requires unfinished { self.old.done < length self.old.part.lines }
         requires section { slice_get (A.actors a.old) v ≡ Some self.old.part.actor }
         requires few { IsTrue (has_steps_left (A.totals a.old) v) }
-        ensures ok { IfOk result (λ r. TakesStep (A.told a.old) self.old r (A.told a.new) self.new) }
+        ensures ok { IfOk result
+            (λ r. TakesStep (A.told a.old) self.old r (A.told a.new) self.new) }
         ensures counts { IfOk result (λ r. CountsIn (A.totals a.old) v r.0 (A.totals a.new)) }
         ensures actors { A.actors a.new ≡ A.actors a.old }
         ensures err { OnErr result (GoesOn self.old self.new) }

@@ -1,4 +1,4 @@
-use Rattle.std.proofs.Common.{ℕ, ◌≡◌, ◌+◌, ◌-◌, ◌*◌, length, ◌∙◌, sym, ap, arith}
+use Rattle.std.proofs.Common.{◌≡◌, ◌-◌, ◌*◌, length, ◌∙◌, sym, ap, arith}
 use Rattle.std.specs.Option.{is_some}
 use Rattle.argo_base.specs.declared.message.Message.{Message}
 use Rattle.argo_model.specs.Programs.Asks.{fetch_all}

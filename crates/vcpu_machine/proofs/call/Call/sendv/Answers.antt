@@ -15,5 +15,5 @@ returns c =
     let a = c.args.self.now in
     let fit : (nat_lt 8 a.a3 || nat_le (2 ^ 32) a.a4) ≡ false = grind (arith, nat_tests) in
     leads_passed_at_once (nat_lt 8 a.a3 || nat_le (2 ^ 32) a.a4) Inval (read a.a1 16 (send_head a.caller a.a2 a.a3 a.a4)) 4117 (To c.reading.result) fit
-    (reads_lead (pieces_left c.over.result) a.a1 16 (Send (Head a.caller a.a2 a.a3 a.a4)) c.reading.result (refusal Fault) (send_head a.caller a.a2 a.a3 a.a4) 4117
+    (reads_lead (pieces_left c.over.result) a.a1 16 (Send (Head (record { caller = a.caller; iovs = a.a2; count = a.a3; kind = a.a4 }))) c.reading.result (refusal Fault) (send_head a.caller a.a2 a.a3 a.a4) 4117
     c.over.ensures.pieces (λ os. refl) (λ bs os. refl) (omega arith) c.reading.ensures)

@@ -1,4 +1,4 @@
-use Rattle.vcpu_machine.proofs.VcpuLaws.{takes_turn}
+use Rattle.vcpu_machine.proofs.TurnLaws.{takes_turn}
 use Rattle.vcpu_machine.proofs.vcpu.Vcpu.turn.Goals as goal
 
 pub returns-in-Ok-clause-ok : goal.returns-in-Ok-clause-ok
