@@ -87,8 +87,10 @@ impl<A: Ledger, B: Ledger, C: Ledger> Books<A, B, C> {
     /// Counts an accepted send of so many bytes.
     pub(crate) fn accept(&mut self, by: &mut Shares<A, B, C>, bytes: u64)
         requires { 0 < by.old.parts }
-        ensures books { self.new ≡ amounts self.old.room (self.old.sends + 1) (self.old.loads + bytes) }
-        ensures by { by.new ≡ portion by.old.parts by.old.room (by.old.sends + 1) (by.old.loads + bytes) }
+        ensures books { self.new
+            ≡ amounts self.old.room (self.old.sends + 1) (self.old.loads + bytes) }
+        ensures by { by.new
+            ≡ portion by.old.parts by.old.room (by.old.sends + 1) (by.old.loads + bytes) }
     {
         self.sends.add(&mut by.sends, 1);
         self.loads.add(&mut by.loads, bytes);
@@ -111,7 +113,8 @@ impl<A: Ledger, B: Ledger, C: Ledger> Shares<A, B, C> {
     /// One part of each, with nothing in it.
     pub(crate) fn split_one(&mut self) -> Self
         requires parts { 1 < self.old.parts }
-        ensures rest { self.new ≡ portion (self.old.parts - 1) self.old.room self.old.sends self.old.loads }
+        ensures rest { self.new
+            ≡ portion (self.old.parts - 1) self.old.room self.old.sends self.old.loads }
         ensures one { result ≡ portion 1 0 0 0 }
     {
         Shares {

@@ -27,7 +27,8 @@ impl Model for Journal {
 
     ghost Value = { Seen };
 
-    ghost view = { λ j. seen (entries_in j.full ++ j.newest.items) (nat_lt (vec_len j.newest) (vec_capacity j.newest)) };
+    ghost view = { λ j. seen (entries_in j.full ++ j.newest.items)
+        (nat_lt (vec_len j.newest) (vec_capacity j.newest)) };
 }
 
 impl Journal {

@@ -63,7 +63,8 @@ pub(crate) fn settle<A: Ledger, B: Ledger, C: Ledger>(
 )
     requires count { length passes.items + 1 ≡ A.parts }
     requires kept { kept ≡ portion 1 0 0 0 }
-    ensures room { sum_by (λ p. p.steps) passes.items + books.room ≡ most_steps * length passes.items }
+    ensures room { sum_by (λ p. p.steps) passes.items + books.room
+        ≡ most_steps * length passes.items }
     ensures sends { books.sends ≡ sum_by (λ p. p.accepted) passes.items }
     ensures loads { books.loads ≡ sum_by (λ p. p.bytes) passes.items }
 {
