@@ -1,4 +1,5 @@
 pub mod Flags
+pub mod Holding
 pub mod NoticeEnds
 pub mod RingNames
 pub mod SendCauses

@@ -18,10 +18,10 @@ pub notice_is_served : NoticeIsServed
 notice_is_served =
     record {
       accepted = (refl, refl);
-      held = record { leaves_room = omega arith; spelled = (refl, refl) };
+      held = record { no_more_taken = omega arith; untaken = refl; held = record { leaves_room = omega arith; spelled = (refl, refl) } };
       refused = refl;
-      noted = (refl, refl);
-      held_after_the_take = record { leaves_room = omega arith; spelled = refl };
+      noted = record { by_sender = refl; of_ring = refl; refused = refl };
+      held_after_the_take = record { no_more_taken = omega arith; untaken = refl; held = record { leaves_room = omega arith; spelled = refl } };
       served = record { by_owner = refl; of_ring = refl; fits = refl; signalled = refl };
       signalled = record { name = first_ring_of 1; by_owner = refl; ended = refl };
       looked_at = refl;

@@ -1,15 +1,13 @@
 -- Worked examples of what laws over whole runs speak of: the messages of a ring, why a send has its reply, what sets and clears a
 -- flag, how a notice begins and ends, and which outcomes are possible.
-use Rattle.std.specs.Prelude.{◌≡◌, ℕ, List, [], ◌∷◌, ◌++◌, replicate, codes, true, IsSomeAnd, slice_get, map, take, drop, pos, neg_ℤ}
+use Rattle.std.specs.Prelude.{◌≡◌, ℕ, List, [], ◌∷◌, ◌++◌, replicate, codes, true, IsSomeAnd, slice_get, map, take, pos, neg_ℤ}
 use Rattle.std.specs.List.{list_all}
 use Rattle.argo_model.specs.declared.line.Line.TheVariants.{Op, Await, Recv}
 use Rattle.argo_model.specs.declared.reply.Reply.TheVariants.{Number}
 use Rattle.argo_model.specs.Runs.Script.{Script}
 use Rattle.argo_model.specs.Laws.Transitions.{Transition, transitions_of, transitions_of_line}
-use Rattle.argo_model.specs.Laws.RingNames.{RingName, name_of, standing}
-use Rattle.argo_model.specs.Rules.Matches.{RingAt, paged_at}
-use Rattle.argo_model.specs.Rules.RingBytes.{rx_word, slots_of}
-use Rattle.argo_model.specs.Rules.Holds.{Holds}
+use Rattle.argo_model.specs.Laws.RingNames.{RingName, standing}
+use Rattle.argo_model.specs.Laws.Holding.{HoldsUntaken}
 use Rattle.argo_model.specs.Laws.Taken.{accepted_by, taken_from}
 use Rattle.argo_model.specs.Laws.SendCauses.{Send, reply_of_send}
 use Rattle.argo_model.specs.Laws.Flags.{SetsFlag, ClearsFlag}
@@ -76,13 +74,7 @@ AtStep k P = IsSomeAnd (slice_get notice_served_transitions k) P
 abbrev pub EndsNoticeOfTwo : Transition → Type 0
 EndsNoticeOfTwo t = IsSomeAnd (standing t.before (first_ring_of 1)) (λ at. EndsLegally t at 2 16)
 
--- a ring holds, after these steps, the messages that it accepted and that its owner has not taken
-abbrev pub HoldsUntaken : List Transition → RingAt → Type 0
-HoldsUntaken transitions at =
-    Holds (slots_of at.live.bytes at.ring) at.ring.len (rx_word (paged_at at).own) at.ring.tx
-    (drop (taken_from (name_of at) transitions) (accepted_by (name_of at) transitions))
-
--- so does the ring of domain 1 after the first k steps
+-- the ring of domain 1 holds, after the first k steps, the messages that it accepted and that its owner has not taken
 abbrev pub HoldsAfter : ℕ → Type 0
 HoldsAfter k = AtStep k (λ t. IsSomeAnd (standing t.before (first_ring_of 1)) (HoldsUntaken (take k notice_served_transitions)))
 
@@ -90,7 +82,7 @@ pub record NoticeIsServed : Type 0 where
   pub accepted : AtStep 10 (λ t. SetsFlag t 1)
   pub held : HoldsAfter 11
   pub refused : reply_of_send (send_of 2 7) (transitions_of_line 1 4 notice_served_transitions) ≡ Number (neg_ℤ (pos 11))
-  pub noted : AtStep 14 (λ t. MakesNotice t 2)
+  pub noted : AtStep 14 (λ t. MakesNotice t (first_ring_of 1) 2)
   pub held_after_the_take : HoldsAfter 20
   pub served : AtStep 20 EndsNoticeOfTwo
   pub signalled : AtStep 20 (λ t. SetsFlag t 2)

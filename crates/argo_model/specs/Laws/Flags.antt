@@ -5,8 +5,7 @@ use Rattle.argo_model.specs.declared.action.Action.TheVariants.{Register, Delive
 use Rattle.argo_model.specs.Programs.Program.{caller_of}
 use Rattle.argo_model.specs.Runs.Final.{accepted_size, is_accepted}
 use Rattle.argo_model.specs.Laws.Transitions.{Transition}
-use Rattle.argo_model.specs.Laws.RingNames.{RingName, notice_on}
-use Rattle.argo_model.specs.Laws.Taken.{is_owner}
+use Rattle.argo_model.specs.Laws.RingNames.{RingName, is_owner, notice_on}
 
 -- the domain's notice on the ring of a name stood before the step, and stands no more
 abbrev pub ended_notice : Transition → RingName → ℕ → Bool

@@ -1,46 +1,44 @@
 -- The messages that a ring has accepted since its last start, and how many of them were taken.
-use Rattle.std.specs.Prelude.{ℕ, ◌+◌, ◌*◌, Bool, false, ◌&&◌, not, ◌==◌, if◌then◌else◌, List, [], ◌++◌, fold, position, Option, Some, None, unwrap_or, option_map, option_and_then, option_to_list}
-use Rattle.std.specs.BTreeMap.{is_at}
+use Rattle.std.specs.Prelude.{ℕ, ◌+◌, Bool, false, ◌&&◌, ◌==◌, if◌then◌else◌, List, [], ◌++◌, fold, Option, Some, None, unwrap_or, option_map, option_and_then, option_to_list}
 use Rattle.argo_base.specs.declared.message.Message.{Message}
-use Rattle.argo_base.specs.Match.{key_cmp, key_of}
-use Rattle.argo_model.specs.declared.scripts.Actor.{Actor}
-use Rattle.argo_model.specs.declared.scripts.Actor.TheVariants.{Vcpu, Control}
+use Rattle.argo_base.specs.Match.{key_of}
 use Rattle.argo_model.specs.declared.action.Action.{Action}
 use Rattle.argo_model.specs.declared.action.Action.TheVariants.{Put, Register, Deliver}
 use Rattle.argo_model.specs.declared.action.Load.TheVariants.{Body}
-use Rattle.argo_model.specs.Rules.Matches.{RingAt, match_at}
+use Rattle.argo_model.specs.Rules.State.{Live, Ring}
 use Rattle.argo_model.specs.Rules.Puts.{move_of}
-use Rattle.argo_model.specs.Rules.Register.{stands_so}
+use Rattle.argo_model.specs.Rules.Register.{own_ring, stands_so}
 use Rattle.argo_model.specs.Programs.Program.{caller_of}
 use Rattle.argo_model.specs.Runs.Final.{accepted_size, is_accepted}
 use Rattle.argo_model.specs.Rules.Outcomes.{is_done}
 use Rattle.argo_model.specs.Laws.Transitions.{Transition}
-use Rattle.argo_model.specs.Laws.RingNames.{RingName, has_name, standing}
+use Rattle.argo_model.specs.Laws.RingNames.{RingName, is_owner, owner_in, is_met, standing}
 
--- the actor is a virtual CPU of the ring's owner
-abbrev pub is_owner : Actor → RingName → Bool
-is_owner (Vcpu d generation) name = (d == name.owner) && (generation == name.generation)
-is_owner Control name = false
+-- the number is there
+abbrev pub is_number : ℕ → Option ℕ → Bool
+is_number n o = unwrap_or (option_map (λ m. m == n) o) false
 
--- the test holds of a ring that is there
-abbrev pub is_there_and : (RingAt → Bool) → Option RingAt → Bool
-is_there_and test m = unwrap_or (option_map test m) false
+-- the serial of the ring that a registration starts, by the ring that stood under the key: the next serial where none did, none
+-- where it stood so already, and else its own
+abbrev pub started_serial : Live → ℕ → List ℕ → Option Ring → Option ℕ
+started_serial live len pages None = Some live.next_serial
+started_serial live len pages (Some r) = if stands_so r len pages then None else Some r.serial
 
--- the action registers the ring, which did not stand so before
-abbrev pub registers_anew : RingName → Transition → Action → Bool
-registers_anew name t (Register port partner len pages fail_exist) =
-    is_there_and (λ m. is_at (key_cmp (key_of port partner)) m.key) (standing t.after name)
-    && not (is_there_and (λ m. stands_so m.ring len pages) (standing t.before name))
-registers_anew name t a = false
+-- the serial of the ring that an action starts where it is done, by what its caller has
+abbrev pub started_by : Action → Live → Option ℕ
+started_by (Register port partner len pages fail_exist) live = started_serial live len pages (own_ring live (key_of port partner))
+started_by a live = None
 
 -- a step that starts the ring: its owner registers it, or registers it anew
 abbrev pub starts_ring : RingName → Transition → Bool
-starts_ring name t = is_owner t.actor name && is_done t.step.outcome && registers_anew name t t.step.action
+starts_ring name t =
+    is_owner t.actor name && is_done t.step.outcome
+    && is_number name.serial (option_and_then (started_by t.step.action) (owner_in t.before name))
 
 -- the message that a domain offers by an action, where the ring is the one that it meets
 abbrev pub offered_to : RingName → Transition → ℕ → Action → Option Message
 offered_to name t d (Deliver port to to_port kind (Body bytes)) =
-    if is_there_and (has_name name) (match_at t.before to to_port d) then Some (record { src = d; port = port; kind = kind; body = bytes }) else None
+    if is_met t.before name to to_port d then Some (record { src = d; port = port; kind = kind; body = bytes }) else None
 offered_to name t d a = None
 
 -- the message that a step brings into the ring, where it is accepted

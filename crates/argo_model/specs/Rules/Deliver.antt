@@ -1,5 +1,5 @@
 -- A message is offered to a ring.
-use Rattle.std.specs.Prelude.{ℕ, true, not, if◌then◌else◌, List, [], ◌∷◌, ◌++◌, length, Option, Some, None}
+use Rattle.std.specs.Prelude.{ℕ, not, if◌then◌else◌, List, [], ◌∷◌, ◌++◌, length, Option, Some, None}
 use Rattle.argo_base.specs.declared.errno.Errno.TheVariants.{Srch, NoDev, ConnRefused, MsgSize, Again, Busy, Fault}
 use Rattle.argo_base.specs.declared.message.Message.{Message}
 use Rattle.argo_base.specs.declared.ring_key.RingKey.{RingKey}

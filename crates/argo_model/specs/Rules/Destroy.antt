@@ -1,11 +1,10 @@
 -- A domain ends, is reset, or is made anew.
-use Rattle.std.specs.Prelude.{ℕ, ◌+◌, false, not, ◌==◌, if◌then◌else◌, List, [], map, filter, is_none, Bool, Option, Some, None}
-use Rattle.argo_base.specs.declared.errno.Errno.{Errno}
+use Rattle.std.specs.Prelude.{ℕ, ◌+◌, false, not, ◌==◌, List, [], map, filter, is_none, Some, None}
 use Rattle.argo_base.specs.declared.errno.Errno.TheVariants.{Srch, Exist}
 use Rattle.argo_base.specs.declared.ring_key.RingKey.{RingKey}
 use Rattle.argo_model.specs.declared.action.Outcome.TheVariants.{Done}
 use Rattle.argo_model.specs.Rules.State.{State, Domain, Live, Ring, domain_of, change_domain, change_life, is_alive, fresh_live}
-use Rattle.argo_model.specs.Rules.Effects.{Change, Effect, answered, leaving, refuse_if, after}
+use Rattle.argo_model.specs.Rules.Effects.{Change, Effect, leaving, refuse_if, after}
 use Rattle.argo_base.specs.Notices.{withdrawn}
 
 -- a ring without a domain's notice

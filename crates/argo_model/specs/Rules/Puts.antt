@@ -2,7 +2,6 @@
 use Rattle.std.specs.Prelude.{ℕ, ◌+◌, ◌*◌, min, max, Bool, false, ◌&&◌, ◌||◌, ◌==◌, nat_lt, if◌then◌else◌, List, [], length, take, drop, sum_by, find, map, position, Option, Some, None, option_and_then, option_map, unwrap_or}
 use Rattle.std.specs.List.{range_with_len}
 use Rattle.argo_base.specs.declared.message.Message.{Message}
-use Rattle.argo_base.specs.declared.ring_key.RingKey.{RingKey}
 use Rattle.argo_base.specs.Slots.{place_after}
 use Rattle.argo_base.specs.Splice.{splice}
 use Rattle.argo_base.specs.Layout.{u32_at}

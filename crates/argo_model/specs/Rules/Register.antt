@@ -1,5 +1,5 @@
 -- A ring is registered, or registered anew, or taken away.
-use Rattle.std.specs.Prelude.{ℕ, ◌+◌, Bool, true, ◌&&◌, not, ◌==◌, nat_le, if◌then◌else◌, List, [], ◌∷◌, length, map, filter, is_some, Option, Some, None}
+use Rattle.std.specs.Prelude.{ℕ, ◌+◌, Bool, true, ◌&&◌, not, ◌==◌, nat_le, if◌then◌else◌, List, [], ◌∷◌, length, filter, is_some, Option, Some, None}
 use Rattle.std.specs.List.{list_all, list_any}
 use Rattle.std.specs.Str.{bytes_eq}
 use Rattle.std.specs.Map.{lookup, remove_entry}
@@ -11,7 +11,7 @@ use Rattle.argo_model.specs.declared.action.Outcome.TheVariants.{Done}
 use Rattle.argo_model.specs.Rules.State.{State, Domain, Live, Ring, is_alive, is_on, has_page}
 use Rattle.argo_model.specs.Rules.Limits.{most_rings}
 use Rattle.argo_base.specs.Notices.{Notices, never_fits, doms_of}
-use Rattle.argo_model.specs.Rules.Effects.{Change, Effect, answered, refused, leaving, refuse_if, lifted, change_in}
+use Rattle.argo_model.specs.Rules.Effects.{Change, Effect, answered, leaving, refuse_if, lifted, change_in}
 use Rattle.argo_model.specs.Rules.RingBytes.{PagedRing, paged, laid, set_paged}
 use Rattle.argo_model.specs.Rules.Starts.{started}
 

@@ -1,7 +1,7 @@
 -- The bytes of a ring, one list: those of its pages, one page after another. The rx word and the tx word come first, and the
 -- slots follow the 64 bytes of the header. Each act on a ring is told on the ring with these bytes, and laid back into its
 -- owner's memory.
-use Rattle.std.specs.Prelude.{ℕ, ◌+◌, ◌-◌, ◌*◌, ◌==◌, Bool, List, [], ◌∷◌, length, take, drop, flat_map}
+use Rattle.std.specs.Prelude.{ℕ, ◌+◌, ◌-◌, ◌*◌, ◌==◌, Bool, List, [], ◌∷◌, take, drop, flat_map}
 use Rattle.std.specs.Map.{set_value}
 use Rattle.std.specs.BTreeMap.{is_at}
 use Rattle.argo_base.specs.declared.ring_key.RingKey.{RingKey}

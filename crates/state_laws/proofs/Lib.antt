@@ -1,0 +1,15 @@
+pub mod Asks
+pub mod Courses
+pub mod Domains
+pub mod Holding
+pub mod Lists
+pub mod LiveActs
+pub mod LiveRegisters
+pub mod Lives
+pub mod Own
+pub mod OwnPuts
+pub mod Pages
+pub mod Programs
+pub mod RingActs
+pub mod Rising
+pub mod StateActs
