@@ -12,7 +12,6 @@ use Rattle.argo_model.specs.Rules.Act.{act}
 use Rattle.argo_model.specs.Rules.Destroy.{destroy, reset, create}
 use Rattle.argo_model.specs.Programs.Asks.{ask, say_done}
 use Rattle.argo_model.specs.Laws.Transitions.{Transition}
-use Rattle.argo_model.specs.Laws.SendCauses.{row}
 use Rattle.reply_causes.specs.Plays.{PlaysTo}
 use Rattle.reply_causes.specs.Tables.{last_state, unless_lost, zero_reply, states_of}
 use Rattle.reply_causes.specs.ControlCauses.{cause_of_destroy, cause_of_reset, cause_of_create}

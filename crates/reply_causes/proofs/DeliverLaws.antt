@@ -1,15 +1,13 @@
 -- Laws of a delivery: what it tells the sender, and whom it notes.
-use Rattle.std.proofs.Common.{◌≡◌, ℕ, ◌==◌, Bool, true, false, not, ◌&&◌, cond, List, [], ◌∷◌, length, Option, Some, None, refl, sym, ap, ◌∙◌, subst}
+use Rattle.std.proofs.Common.{◌≡◌, ℕ, Bool, true, false, not, ◌&&◌, cond, length, Option, Some, None, refl, ap}
 use Rattle.std.specs.Prelude.{option_and_then, option_map, pos}
 use Rattle.argo_base.specs.declared.errno.Errno.{Errno}
 use Rattle.argo_base.specs.declared.errno.Errno.TheVariants.{Perm, NoEnt, Srch, Again, Acces, Fault as efault, Busy, Exist, NoDev, Inval, NoSpc, MsgSize, OpNotSupp, ConnRefused}
 use Rattle.argo_base.specs.declared.message.Message.{Message}
 use Rattle.argo_base.specs.declared.ring_key.RingKey.{RingKey}
 use Rattle.argo_base.specs.Match.{match_of}
-use Rattle.argo_model.specs.declared.scripts.Actor.TheVariants.{Vcpu}
 use Rattle.argo_model.specs.declared.action.Action.TheVariants.{Deliver}
 use Rattle.argo_model.specs.declared.action.Load.{Load}
-use Rattle.argo_model.specs.declared.action.Outcome.{Outcome}
 use Rattle.argo_model.specs.declared.action.Outcome.TheVariants.{Refused, Accepted, Gone}
 use Rattle.argo_model.specs.declared.reply.Reply.{Reply}
 use Rattle.argo_model.specs.declared.reply.Reply.TheVariants.{Number}

@@ -1,5 +1,5 @@
 -- Laws of ranges that are fetched piece by piece.
-use Rattle.std.proofs.Common.{◌≡◌, ℕ, zero, suc, ◌+◌, ◌*◌, ◌==◌, Bool, true, false, cond, List, [], ◌∷◌, ◌++◌, length, take, drop, map, ◌||◌, Option, Some, None, refl, sym, ap, ◌∙◌, subst, append_assoc, append-nil}
+use Rattle.std.proofs.Common.{◌≡◌, ℕ, suc, ◌+◌, ◌*◌, ◌==◌, Bool, true, false, cond, List, [], ◌∷◌, ◌++◌, length, take, drop, ◌||◌, Option, Some, None, refl, sym, ap, ◌∙◌, subst, append_assoc, append-nil}
 use Rattle.std.specs.Prelude.{option_and_then, option_map}
 use Rattle.argo_base.specs.declared.piece.Piece.{Piece}
 use Rattle.argo_model.specs.declared.scripts.Actor.{Actor}
@@ -12,9 +12,9 @@ use Rattle.argo_model.specs.declared.action.Load.TheVariants.{Body, Faulted}
 use Rattle.argo_model.specs.declared.reply.Reply.{Reply}
 use Rattle.argo_model.specs.declared.reply.Reply.TheVariants.{Gone as gone}
 use Rattle.argo_model.specs.Rules.State.{State, Domain, Live, domain_of, has_page}
-use Rattle.argo_model.specs.Rules.Act.{act, act_if_there, act_if_live}
+use Rattle.argo_model.specs.Rules.Act.{act_if_there, act_if_live}
 use Rattle.argo_model.specs.Rules.Outcomes.{is_gone}
-use Rattle.argo_model.specs.Programs.Asks.{Say, Next, Rests, unless_gone, if_bytes, fetch_all}
+use Rattle.argo_model.specs.Programs.Asks.{Say, Rests, unless_gone, if_bytes, fetch_all}
 use Rattle.argo_model.specs.Programs.Send.{gather, if_gathered}
 use Rattle.argo_model.specs.Laws.Transitions.{Transition}
 use Rattle.argo_model.specs.Laws.SendCauses.{piece_of, piece_in, found}

@@ -1,6 +1,7 @@
 pub mod ControlLaws
 pub mod DeliverLaws
 pub mod FetchLaws
+pub mod GoneLaws
 pub mod LineLaws
 pub mod MemoryLaws
 pub mod MetLaws

@@ -14,9 +14,9 @@ use Rattle.argo_model.specs.declared.reply.Reply.TheVariants.{Stored, Hex, Signa
 use Rattle.argo_model.specs.Rules.State.{State, Domain, Live, domain_of, has_page}
 use Rattle.argo_model.specs.Rules.Effects.{answered, leaving, change_in}
 use Rattle.argo_model.specs.Rules.Puts.{put_into}
-use Rattle.argo_model.specs.Rules.Act.{act, act_if_there, act_if_live}
+use Rattle.argo_model.specs.Rules.Act.{act_if_there, act_if_live}
 use Rattle.argo_model.specs.Rules.Outcomes.{is_gone}
-use Rattle.argo_model.specs.Programs.Program.{Rests, Say, unless_gone, if_done, put_all, fetch_all, store, load, await, if_flag}
+use Rattle.argo_model.specs.Programs.Program.{Rests, Say, unless_gone, if_done, put_all, store, load, await, if_flag}
 use Rattle.argo_model.specs.Laws.Transitions.{Transition}
 use Rattle.argo_model.specs.Laws.NoticeEnds.{has_flag}
 use Rattle.argo_model.specs.Laws.SendCauses.{piece_of, piece_in, found}

@@ -1,5 +1,5 @@
 -- Laws of the ring that a sender meets, and of its notices.
-use Rattle.std.proofs.Common.{◌≡◌, ℕ, ◌==◌, ◌≤◌, max, nat_le, Bool, true, false, cond, ◌&&◌, List, [], ◌∷◌, Option, Some, None, IsTrue, refl, sym, ap, ◌∙◌, subst, arith}
+use Rattle.std.proofs.Common.{◌≡◌, ℕ, max, nat_le, Bool, true, false, cond, List, [], ◌∷◌, Option, Some, None, IsTrue, refl, sym, ap, ◌∙◌, subst, arith}
 use Rattle.std.specs.Prelude.{option_and_then, option_map, unwrap_or}
 use Rattle.std.specs.Option.{option_or}
 use Rattle.std.specs.Map.{lookup, set_value}
@@ -10,9 +10,9 @@ use Rattle.std.specs.declared.cmp.Ordering.{Ordering}
 use Rattle.std.specs.declared.cmp.Ordering.TheVariants.{Less, Equal, Greater}
 use Rattle.std.proofs.lemmas.Bool.Decides.{nat_tests}
 use Rattle.argo_base.specs.declared.ring_key.RingKey.{RingKey}
-use Rattle.argo_base.specs.Match.{key_cmp, key_of, match_of, at_key, wildcard}
+use Rattle.argo_base.specs.Match.{key_cmp, key_of, match_of, wildcard}
 use Rattle.argo_base.specs.Notices.{Notices, size_of, noted}
-use Rattle.argo_model.specs.Rules.State.{State, Domain, Live, Ring, domain_of, change_domain, change_found, set_domain}
+use Rattle.argo_model.specs.Rules.State.{State, Domain, Live, Ring, domain_of, change_domain, change_found}
 use Rattle.argo_model.specs.Rules.Effects.{with_life}
 use Rattle.argo_model.specs.Rules.Matches.{RingAt, match_at, match_of_domain, match_in}
 

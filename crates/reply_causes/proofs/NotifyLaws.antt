@@ -1,5 +1,5 @@
 -- A notify has its cause.
-use Rattle.std.proofs.Common.{◌≡◌, ℕ, zero, suc, ◌+◌, ◌==◌, Bool, true, false, not, nat_lt, ◌||◌, cond, List, [], ◌∷◌, length, drop, slice_get, Option, Some, None, refl, sym, ap, ◌∙◌, subst, arith}
+use Rattle.std.proofs.Common.{◌≡◌, ℕ, zero, suc, ◌+◌, ◌==◌, Bool, true, false, not, nat_lt, ◌||◌, cond, List, [], ◌∷◌, length, drop, Option, Some, None, refl, sym, ap, ◌∙◌, subst, arith}
 use Rattle.std.specs.Prelude.{unwrap_or, is_none, option_map, option_and_then}
 use Rattle.std.proofs.lemmas.List.{drop-map}
 use Rattle.std.proofs.Math.Seq.{drop-drop}
@@ -21,23 +21,23 @@ use Rattle.argo_model.specs.declared.reply.Reply.{Reply}
 use Rattle.argo_model.specs.declared.reply.Reply.TheVariants.{Gone as gone}
 use Rattle.argo_model.specs.Rules.State.{State, Domain, Live, Ring, domain_of, is_on}
 use Rattle.argo_model.specs.Rules.Act.{act_if_there, act_if_live}
-use Rattle.argo_model.specs.Rules.Effects.{Change, change_in, refuse_if, answered}
+use Rattle.argo_model.specs.Rules.Effects.{change_in, refuse_if}
 use Rattle.argo_model.specs.Rules.Limits.{most_rings, most_entries}
 use Rattle.argo_model.specs.Rules.Outcomes.{is_gone}
 use Rattle.argo_model.specs.Rules.Query.{query_domain, query_life, query_match}
 use Rattle.argo_model.specs.Rules.Sweep.{next_ring, sweep_found}
-use Rattle.argo_model.specs.Programs.Asks.{Rests, Say, ask, put_all, read, refusal, refuse_if as refuses_if, unless_gone}
+use Rattle.argo_model.specs.Programs.Asks.{Rests, ask, read, unless_gone}
 use Rattle.argo_model.specs.Programs.Notify.{notify, sweep_rings, if_swept, if_answered, answer_entry, answer_entries, entries_at, notify_head, notify_entries}
 use Rattle.argo_model.specs.Programs.Register.{has_more}
 use Rattle.argo_model.specs.Laws.Transitions.{Transition}
 use Rattle.argo_model.specs.Laws.SendCauses.{found, row, says}
 use Rattle.reply_causes.specs.Tables.{Call, zero_reply}
-use Rattle.reply_causes.specs.NotifyCauses.{ring_after, swept, after_sweeps, has_pad, cause_of_entry, entry_steps, question_steps, entry_looked, cause_of_entries, cause_of_head, cause_of_questions, cause_after_sweeps, cause_of_notify}
+use Rattle.reply_causes.specs.NotifyCauses.{ring_after, swept, after_sweeps, has_pad, entry_steps, question_steps, entry_looked, cause_of_entries, cause_of_head, cause_of_questions, cause_after_sweeps, cause_of_notify}
 use Rattle.reply_causes.specs.Causes.{NotifiesHaveCauses}
 use Rattle.reply_causes.proofs.StepLaws.{Ends, ends, Performs, performs, said, any_gone, befores, Over, Lost, Replied}
 use Rattle.reply_causes.proofs.TableLaws.{over-cause, over-same, says-over, refuses-over, at_once-over, read-over}
 use Rattle.reply_causes.proofs.MemoryLaws.{puts-over}
-use Rattle.reply_causes.proofs.TestLaws.{same-eqb}
+use Rattle.reply_causes.proofs.TestLaws.{same-eqb, get-drop}
 
 -- what follows a step that was not `Gone`
 over-next : (p q : Reply) (t : Transition) (ts : List Transition) (r : Reply) → is_gone t.step.outcome ≡ false → q ≡ p → Over p ts r → Over q (t ∷ ts) r
@@ -145,12 +145,6 @@ query_at d generation to port need s (Some x) = by (x.generation == generation) 
   by false life = Unheard refl
   by true None = Unheard refl
   by true (Some live) = asks x.on
-
-get-drop : {A : Type 0} (n : ℕ) (xs ys : List A) (y : A) → drop n xs ≡ y ∷ ys → slice_get xs n ≡ Some y
-get-drop zero [] ys y h = absurd (let no : ⊥ = cc in no)
-get-drop zero (x ∷ xs) ys y h = let same : x ≡ y = cc in ap Some same
-get-drop (suc n) [] ys y h = absurd (let no : ⊥ = cc in no)
-get-drop (suc n) (x ∷ xs) ys y h = get-drop n xs ys y h
 
 -- the question of an entry, with its answer, and what follows
 question-over : (d generation at : ℕ) (entry : List ℕ) (q : Reply) (more : Rests) (ts : List Transition) (r : Reply)

@@ -1,5 +1,5 @@
 -- A recv has its cause.
-use Rattle.std.proofs.Common.{◌≡◌, ℕ, ◌+◌, ◌-◌, ◌*◌, ◌==◌, not, ◌&&◌, List, [], length, drop, Option, sym, subst}
+use Rattle.std.proofs.Common.{ℕ, ◌-◌, ◌*◌, ◌==◌, not, ◌&&◌, List, [], length, drop, sym, subst}
 use Rattle.std.specs.Prelude.{unwrap_or, is_none}
 use Rattle.std.proofs.lemmas.List.{drop-map}
 use Rattle.argo_base.specs.Layout.{u32_at, u32_bytes}
@@ -9,7 +9,7 @@ use Rattle.argo_model.specs.declared.scripts.Actor.TheVariants.{Vcpu}
 use Rattle.argo_model.specs.declared.reply.Reply.{Reply}
 use Rattle.argo_model.specs.declared.reply.Reply.TheVariants.{Empty, Bad, Fault}
 use Rattle.argo_model.specs.Rules.State.{State}
-use Rattle.argo_model.specs.Programs.Asks.{Rests, Say, fetch_all, put_all}
+use Rattle.argo_model.specs.Programs.Asks.{Say, fetch_all}
 use Rattle.argo_model.specs.Programs.Recv.{recv, recv_at, say_if, recv_words, recv_head, recv_body, received, is_message_head, take_slots}
 use Rattle.argo_model.specs.Laws.Transitions.{Transition}
 use Rattle.argo_model.specs.Laws.SendCauses.{found}

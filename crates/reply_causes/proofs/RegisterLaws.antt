@@ -1,12 +1,11 @@
 -- register_ring, unregister_ring and unknown commands have their causes.
-use Rattle.std.proofs.Common.{◌≡◌, ℕ, ◌+◌, ◌*◌, ◌==◌, nat_lt, nat_le, Bool, true, false, not, ◌&&◌, cond, List, [], length, drop, Option, Some, None, refl, sym, ap, ◌∙◌, subst}
+use Rattle.std.proofs.Common.{◌≡◌, ℕ, ◌+◌, ◌*◌, ◌==◌, nat_lt, nat_le, Bool, true, false, not, ◌&&◌, cond, List, [], length, drop, Option, Some, None, sym, ap, ◌∙◌, subst}
 use Rattle.std.specs.Prelude.{unwrap_or, is_none, option_map, option_and_then}
 use Rattle.std.proofs.lemmas.List.{drop-map}
 use Rattle.std.proofs.Math.Seq.{drop-drop}
 use Rattle.argo_base.specs.declared.errno.Errno.TheVariants.{NoEnt, Srch, Fault as efault, Exist, NoDev, Inval, NoSpc, OpNotSupp, ConnRefused}
 use Rattle.argo_base.specs.declared.ring_key.RingKey.{RingKey}
 use Rattle.argo_base.specs.Layout.{u16_at, u32_at, numbers_at}
-use Rattle.argo_base.specs.Match.{key_of}
 use Rattle.argo_base.specs.Pieces.{pieces}
 use Rattle.argo_model.specs.declared.scripts.Actor.{Actor}
 use Rattle.argo_model.specs.declared.scripts.Actor.TheVariants.{Vcpu}
@@ -18,14 +17,14 @@ use Rattle.argo_model.specs.Rules.Act.{act}
 use Rattle.argo_model.specs.Rules.Effects.{answered}
 use Rattle.argo_model.specs.Rules.Limits.{most_rings}
 use Rattle.argo_model.specs.Rules.Register.{register, register_allowed, register_anew, has_ring, own_ring, are_free_for, is_single, stands_so, unregister}
-use Rattle.argo_model.specs.Programs.Asks.{Rests, ask, read, refuse_if as refuses_if, say_done}
-use Rattle.argo_model.specs.Programs.Program.{command_of, Unknown, op, Command}
+use Rattle.argo_model.specs.Programs.Asks.{ask, read, say_done}
+use Rattle.argo_model.specs.Programs.Program.{Unknown, op, Command}
 use Rattle.argo_model.specs.Programs.Register.{register_ring, register_head, register_pages, is_register_head, unregister_ring, unregister_head, has_more}
 use Rattle.argo_model.specs.Laws.Transitions.{Transition}
 use Rattle.argo_model.specs.Laws.SendCauses.{found, row, says}
 use Rattle.reply_causes.specs.Plays.{PlaysTo}
 use Rattle.reply_causes.specs.Tables.{Call, last_state, zero_reply, states_of, unless_lost}
-use Rattle.reply_causes.specs.RegisterCauses.{Looked, cause_of_register, cause_of_unregister, register_looked, unregister_looked, partner_of, key_named, has_named, has_most, has_free}
+use Rattle.reply_causes.specs.RegisterCauses.{Looked, cause_of_register, cause_of_unregister, register_looked, unregister_looked, partner_of, key_named}
 use Rattle.reply_causes.specs.Causes.{RegistersHaveCauses, UnregistersHaveCauses, UnknownsHaveCauses, cause_of_op}
 use Rattle.reply_causes.proofs.StepLaws.{Ends, ends, Tells, befores, Over, always}
 use Rattle.reply_causes.proofs.TableLaws.{over-cause, over-same, refuses-over, at_once-over, read-over, act-over, Answers, Answered, at_life, tells_if, done-tells, done_closes}

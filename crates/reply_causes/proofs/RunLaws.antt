@@ -1,30 +1,26 @@
 -- The transitions of a line of a run are steps of the line, from its first on.
-use Rattle.std.proofs.Common.{◌≡◌, ℕ, zero, suc, ◌+◌, ◌==◌, ◌<◌, ◌≤◌, ◌≢◌, Bool, true, false, cond, ◌&&◌, List, [], ◌∷◌, ◌++◌, map, filter, slice_get, slice_set, Option, Some, None, refl, sym, ap, ◌∙◌, subst, arith, append_assoc, append-nil}
-use Rattle.std.specs.Prelude.{option_and_then, option_map, option_to_list, fold}
-use Rattle.std.proofs.lemmas.Bool.{false≢true}
+use Rattle.std.proofs.Common.{◌≡◌, ℕ, zero, suc, ◌+◌, ◌==◌, ◌≤◌, ◌≢◌, Bool, true, false, cond, ◌&&◌, List, [], ◌∷◌, ◌++◌, slice_get, slice_set, Option, Some, None, refl, sym, ap, ◌∙◌, subst, arith, append_assoc, append-nil}
+use Rattle.std.specs.Prelude.{option_and_then, option_map, option_to_list}
 use Rattle.std.proofs.lemmas.Bool.Decides.{nat_tests}
-use Rattle.std.proofs.lemmas.List.Elements.{filter-append}
-use Rattle.std.proofs.lemmas.Option.{slice_get-map}
 use Rattle.argo_model.specs.declared.scripts.Actor.{Actor}
 use Rattle.argo_model.specs.declared.line.Line.{Line}
 use Rattle.argo_model.specs.declared.action.Action.{Action}
 use Rattle.argo_model.specs.declared.action.Outcome.{Outcome}
 use Rattle.argo_model.specs.declared.reply.Reply.{Reply}
-use Rattle.argo_model.specs.Rules.State.{State}
 use Rattle.argo_model.specs.Rules.Act.{Effect, act}
 use Rattle.argo_model.specs.Programs.Program.{Next, Do, Say, Rests, program}
-use Rattle.argo_model.specs.Runs.Run.{Progress, Turn, Course, turn, turn_at, turn_by, turn_to, after_turn, next_turn, step}
+use Rattle.argo_model.specs.Runs.Run.{Progress, Turn, Course, turn, turn_at, turn_by, turn_to, after_turn, step}
 use Rattle.argo_model.specs.Laws.Transitions.{Transition, transition_of, transition_at, transitions_from, transitions_of_line}
 use Rattle.reply_causes.specs.Plays.{IsStepOf, Plays, reply_in}
 use Rattle.reply_causes.proofs.TestLaws.{same-eqb, both_hold}
 
 -- an element that is written is there, and the others are as they were
-get-written : {A : Type 0} (xs : List A) (v : ℕ) (x y : A) → slice_get xs v ≡ Some x → slice_get (slice_set xs v y) v ≡ Some y
+pub get-written : {A : Type 0} (xs : List A) (v : ℕ) (x y : A) → slice_get xs v ≡ Some x → slice_get (slice_set xs v y) v ≡ Some y
 get-written [] v x y h = cc
 get-written (z ∷ zs) zero x y h = refl
 get-written (z ∷ zs) (suc v) x y h = get-written zs v x y h
 
-get-others : {A : Type 0} (xs : List A) (u v : ℕ) (y : A) → u ≢ v → slice_get (slice_set xs u y) v ≡ slice_get xs v
+pub get-others : {A : Type 0} (xs : List A) (u v : ℕ) (y : A) → u ≢ v → slice_get (slice_set xs u y) v ≡ slice_get xs v
 get-others [] u v y h = refl
 get-others (z ∷ zs) zero zero y h = absurd (h refl)
 get-others (z ∷ zs) zero (suc v) y h = refl
@@ -71,7 +67,7 @@ ahead-same c d vs ws v p same h =
     }
 
 -- the course after a turn
-abbrev turned : Course → ℕ → Turn → Course
+abbrev pub turned : Course → ℕ → Turn → Course
 turned c v t = after_turn c v (Some t)
 
 from-idle : (c : Course) (u v k : ℕ) (us : List ℕ) → transition_at c u ≡ None → step c u ≡ c → from c (u ∷ us) v k ≡ from c us v k

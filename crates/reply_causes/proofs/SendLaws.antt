@@ -1,14 +1,14 @@
 -- Every send has its cause.
-use Rattle.std.proofs.Common.{◌≡◌, ℕ, ◌==◌, ◌+◌, ◌*◌, ◌^◌, nat_lt, nat_le, Bool, true, false, not, ◌&&◌, ◌||◌, cond, List, [], ◌∷◌, ◌++◌, length, map, drop, Option, Some, None, Result, Ok, Err, IsTrue, refl, sym, ap, ◌∙◌, subst}
-use Rattle.std.specs.Prelude.{option_and_then, option_map, unwrap_or, is_none, pos, negsuc, IsSomeAnd}
+use Rattle.std.proofs.Common.{◌≡◌, ℕ, ◌==◌, ◌+◌, nat_lt, Bool, true, false, not, ◌&&◌, ◌||◌, cond, List, [], ◌∷◌, length, drop, Option, Some, None, Result, Ok, Err, IsTrue, refl, sym, ap, ◌∙◌, subst}
+use Rattle.std.specs.Prelude.{option_map, unwrap_or, is_none, pos, negsuc, IsSomeAnd}
 use Rattle.std.specs.List.{last_or}
 use Rattle.std.proofs.lemmas.List.{drop-map}
 use Rattle.argo_base.specs.declared.errno.Errno.{Errno}
 use Rattle.argo_base.specs.declared.errno.Errno.TheVariants.{Srch, Again, NoDev, Inval, MsgSize, ConnRefused}
-use Rattle.argo_base.specs.Layout.{u16_at, u32_at}
+use Rattle.argo_base.specs.Layout.{u32_at}
 use Rattle.argo_base.specs.Iovs.{Iov, is_bad_iov, judged, verdict_of}
 use Rattle.argo_base.specs.Limits.{longest_body}
-use Rattle.argo_base.specs.Notices.{noted, is_busy, size_of}
+use Rattle.argo_base.specs.Notices.{noted, is_busy}
 use Rattle.argo_base.specs.Slots.{fits, is_too_big}
 use Rattle.argo_model.specs.declared.scripts.Actor.{Actor}
 use Rattle.argo_model.specs.declared.scripts.Actor.TheVariants.{Vcpu}
@@ -21,20 +21,20 @@ use Rattle.argo_model.specs.declared.action.Outcome.TheVariants.{Done, Bytes, Fa
 use Rattle.argo_model.specs.declared.reply.Reply.{Reply}
 use Rattle.argo_model.specs.declared.reply.Reply.TheVariants.{Stored, Hex, Number, Signal, NoSignal, Msg, Empty, Bad, Fault, Gone as gone}
 use Rattle.argo_model.specs.Rules.State.{State, Domain, Live, Ring, domain_of, is_alive, is_on, change_domain, signal_all}
-use Rattle.argo_model.specs.Rules.Effects.{Change, Effect, leaving, refuse_if, lifted, set_left, with_life, change_in}
+use Rattle.argo_model.specs.Rules.Effects.{Change, leaving, refuse_if, lifted, set_left, with_life}
 use Rattle.argo_model.specs.Rules.RingBytes.{set_paged, free}
 use Rattle.argo_model.specs.Rules.Matches.{RingAt, match_at, paged_at}
-use Rattle.argo_model.specs.Rules.Deliver.{Offer, offer, accepted, deliver, with_notice, message_of, offer_to_domain}
+use Rattle.argo_model.specs.Rules.Deliver.{Offer, accepted, deliver, with_notice, message_of, offer_to_domain}
 use Rattle.argo_model.specs.Rules.Outcomes.{is_gone}
 use Rattle.argo_model.specs.Rules.Act.{act}
 use Rattle.argo_model.specs.Runs.Final.{accepted_size, is_accepted}
-use Rattle.argo_model.specs.Programs.Asks.{Rests, Say, unless_gone}
+use Rattle.argo_model.specs.Programs.Asks.{unless_gone}
 use Rattle.argo_model.specs.Programs.Program.{caller_of}
 use Rattle.argo_model.specs.Programs.Send.{say_accepted, send_load}
 use Rattle.argo_model.specs.Laws.Transitions.{Transition}
-use Rattle.argo_model.specs.Laws.RingNames.{RingName, name_of, has_name}
+use Rattle.argo_model.specs.Laws.RingNames.{name_of, has_name}
 use Rattle.argo_model.specs.Laws.Taken.{brought_by, offered_to}
-use Rattle.argo_model.specs.Laws.SendCauses.{Send, Looked, looked_by, address_of, receiver_of, met_in, ring_of, iovs_in, message_in, says, row, cause_at, cause_judged, cause_at_match, cause_of, reply_of_send, waits_on, WaitsForSize, IsNoted, BringsMessage, IfCount, SendHasCause}
+use Rattle.argo_model.specs.Laws.SendCauses.{Send, Looked, looked_by, address_of, receiver_of, met_in, ring_of, iovs_in, message_in, says, row, cause_at, cause_judged, cause_at_match, cause_of, waits_on, WaitsForSize, IsNoted, BringsMessage, IfCount, SendHasCause}
 use Rattle.reply_causes.proofs.StepLaws.{Ends, Performs, Asked, By, asked, said, told, vanished, any_gone, befores, last-drop}
 use Rattle.reply_causes.proofs.DeliverLaws.{Settled, settled_refused, settled_if, settled_faulted, settled_body, offered, caused, change_at, offer_at, Delivery, Vanishes, Delivers, delivery, refusal_counts, IsOther}
 use Rattle.reply_causes.proofs.MetLaws.{met, met-after, noted-size}

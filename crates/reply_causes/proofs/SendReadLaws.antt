@@ -1,5 +1,5 @@
 -- What a send reads before its delivery.
-use Rattle.std.proofs.Common.{◌≡◌, ℕ, zero, suc, ◌+◌, ◌*◌, ◌^◌, nat_lt, nat_le, Bool, true, false, not, ◌||◌, List, [], ◌∷◌, length, drop, Option, Some, None, Result, Ok, Err, refl, sym, ap, ◌∙◌, subst}
+use Rattle.std.proofs.Common.{◌≡◌, ℕ, ◌+◌, ◌*◌, ◌^◌, nat_lt, nat_le, Bool, true, false, not, ◌||◌, List, [], length, drop, Option, Some, None, Result, Ok, Err, refl, sym, ap, ◌∙◌, subst}
 use Rattle.std.specs.Prelude.{unwrap_or, is_none}
 use Rattle.std.proofs.lemmas.List.{drop-map}
 use Rattle.std.proofs.Math.Seq.{drop-drop}
@@ -15,7 +15,7 @@ use Rattle.argo_model.specs.declared.action.Load.TheVariants.{Body, Faulted, Ref
 use Rattle.argo_model.specs.declared.reply.Reply.{Reply}
 use Rattle.argo_model.specs.Rules.State.{is_alive, is_on}
 use Rattle.argo_model.specs.Programs.Asks.{refusal, refuse_if, refuse_at_once_if, read}
-use Rattle.argo_model.specs.Programs.Send.{sendv, send_head, send_iovs, send_judged, send_load, gather, is_send_addr, is_own_source}
+use Rattle.argo_model.specs.Programs.Send.{sendv, send_head, send_iovs, send_judged, send_load, is_send_addr, is_own_source}
 use Rattle.argo_model.specs.Laws.Transitions.{Transition}
 use Rattle.argo_model.specs.Laws.SendCauses.{Send, Looked, looked_by, address_of, address_steps, list_steps, receiver_of, ring_of, iovs_in, found, says, row, cause_at_match, cause_of, SendHasCause}
 use Rattle.reply_causes.specs.Sends.{SendsHaveCauses}

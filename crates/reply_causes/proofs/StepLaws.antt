@@ -1,8 +1,6 @@
 -- Laws of the steps of a line that comes to its reply.
-use Rattle.std.proofs.Common.{◌≡◌, ℕ, zero, suc, Bool, true, false, ◌||◌, List, [], ◌∷◌, drop, map, Option, Some, None, refl, sym, ap, ◌∙◌, subst}
+use Rattle.std.proofs.Common.{◌≡◌, ℕ, zero, suc, Bool, true, false, ◌||◌, List, [], ◌∷◌, drop, map, Option, Some, refl, sym, ap, ◌∙◌, subst}
 use Rattle.std.specs.List.{list_any, last_or}
-use Rattle.std.proofs.lemmas.Bool.{false≢true}
-use Rattle.argo_base.specs.declared.errno.Errno.{Errno}
 use Rattle.argo_model.specs.declared.scripts.Actor.{Actor}
 use Rattle.argo_model.specs.declared.action.Action.{Action}
 use Rattle.argo_model.specs.declared.action.Outcome.{Outcome}

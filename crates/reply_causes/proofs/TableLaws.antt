@@ -1,7 +1,6 @@
 -- Laws of tables of causes: each part of a program agrees with its row.
-use Rattle.std.proofs.Common.{◌≡◌, ℕ, ◌+◌, Bool, true, false, ◌||◌, cond, List, [], ◌∷◌, ◌++◌, ◌==◌, length, drop, Option, Some, None, refl, sym, ap, ◌∙◌, subst}
-use Rattle.std.specs.Prelude.{unwrap_or, is_none, pos, option_and_then}
-use Rattle.std.specs.List.{last_or}
+use Rattle.std.proofs.Common.{◌≡◌, ℕ, ◌+◌, Bool, true, false, ◌||◌, cond, List, [], ◌∷◌, ◌==◌, length, drop, Option, Some, None, refl, sym, ap, ◌∙◌, subst}
+use Rattle.std.specs.Prelude.{unwrap_or, is_none}
 use Rattle.std.proofs.lemmas.List.{drop-map}
 use Rattle.std.proofs.Math.Seq.{drop-drop}
 use Rattle.argo_base.specs.declared.errno.Errno.{Errno}
@@ -15,17 +14,17 @@ use Rattle.argo_model.specs.declared.action.Action.TheVariants.{Rest}
 use Rattle.argo_model.specs.declared.action.Outcome.{Outcome}
 use Rattle.argo_model.specs.declared.action.Outcome.TheVariants.{Done, Bytes, Fault, Refused, Accepted, Swept, NoMore, Answer, Flag, Gone}
 use Rattle.argo_model.specs.declared.reply.Reply.{Reply}
-use Rattle.argo_model.specs.declared.reply.Reply.TheVariants.{Number, Gone as gone}
+use Rattle.argo_model.specs.declared.reply.Reply.TheVariants.{Gone as gone}
 use Rattle.argo_model.specs.Rules.State.{State, Domain, Live, domain_of}
 use Rattle.argo_model.specs.Rules.Act.{act, act_of, act_if_live, act_if_there}
 use Rattle.argo_model.specs.Rules.Effects.{Change, refuse_if}
 use Rattle.argo_model.specs.Rules.Outcomes.{is_gone}
-use Rattle.argo_model.specs.Programs.Asks.{Rests, Say, ask, fetch_all, refusal, refuse_if as refuses_if, refuse_at_once_if, read, say_done, unless_gone}
+use Rattle.argo_model.specs.Programs.Asks.{Rests, Say, ask, fetch_all, refuse_if as refuses_if, refuse_at_once_if, read, say_done, unless_gone}
 use Rattle.argo_model.specs.Programs.Recv.{say_if}
 use Rattle.argo_model.specs.Laws.Transitions.{Transition}
 use Rattle.argo_model.specs.Laws.SendCauses.{found, says, row}
 use Rattle.reply_causes.specs.Tables.{last_state, unless_lost, case, zero_reply}
-use Rattle.reply_causes.proofs.StepLaws.{Ends, Performs, Asked, By, asked, Tells, told, said, vanished, any_gone, befores, last-drop, Over, Lost as Vanished, Replied, always}
+use Rattle.reply_causes.proofs.StepLaws.{Ends, Asked, By, asked, Tells, told, said, vanished, any_gone, befores, last-drop, Over, Lost as Vanished, Replied, always}
 use Rattle.reply_causes.proofs.FetchLaws.{Fetched, Lost, Missed, Found, fetch_all-ends}
 
 -- a line that is over has its cause

@@ -1,6 +1,7 @@
 pub mod Causes
 pub mod ControlCauses
 pub mod Examples
+pub mod Gone
 pub mod MemoryCauses
 pub mod NotifyCauses
 pub mod Plays

@@ -1,5 +1,5 @@
 -- Why notify has its reply.
-use Rattle.std.specs.Prelude.{ℕ, zero, suc, ◌+◌, Bool, false, not, ◌||◌, ◌&&◌, ◌==◌, nat_lt, if◌then◌else◌, List, [], ◌∷◌, length, drop, slice_get, is_none, unwrap_or, option_and_then, Option, Some, None}
+use Rattle.std.specs.Prelude.{ℕ, zero, suc, ◌+◌, Bool, not, ◌&&◌, ◌==◌, nat_lt, if◌then◌else◌, List, [], ◌∷◌, length, drop, slice_get, is_none, unwrap_or, option_and_then, Option, Some, None}
 use Rattle.argo_base.specs.declared.errno.Errno.TheVariants.{Acces, Fault as efault, NoDev, Inval}
 use Rattle.argo_base.specs.declared.ring_key.RingKey.{RingKey}
 use Rattle.argo_base.specs.Layout.{u16_at, u32_at}

@@ -1,5 +1,5 @@
 -- Why a recv has its reply.
-use Rattle.std.specs.Prelude.{ℕ, ◌+◌, ◌-◌, ◌*◌, not, ◌&&◌, ◌==◌, List, length, drop, is_none, unwrap_or, Option, []}
+use Rattle.std.specs.Prelude.{ℕ, ◌+◌, ◌-◌, not, ◌&&◌, ◌==◌, List, length, drop, is_none, unwrap_or, Option, []}
 use Rattle.argo_base.specs.declared.piece.Piece.{Piece}
 use Rattle.argo_base.specs.Layout.{u32_at}
 use Rattle.argo_base.specs.Pieces.{pieces}

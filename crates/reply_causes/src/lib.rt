@@ -10,5 +10,5 @@ mod lines;
 mod runs;
 
 pub use calls::{notify, register_ring, sendv, unknown_command, unregister_ring};
-pub use lines::{await_flag, create, destroy, load, recv, reset, store};
+pub use lines::{await_flag, create, destroy, gone, load, recv, reset, store};
 pub use runs::replies_have_causes;

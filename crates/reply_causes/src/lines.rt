@@ -1,5 +1,6 @@
 //! The other lines of scripts.
 
+ghost use Rattle.reply_causes.specs.Gone.{LostExactlyWhereAway};
 ghost use Rattle.reply_causes.specs.Causes.{AwaitsHaveCauses, AwaitsLookTurns, CreatesHaveCauses, DestroysHaveCauses, LoadsHaveCauses, RecvsHaveCauses, ResetsHaveCauses, StoresHaveCauses};
 
 /// A store is a fault exactly where a piece of its range was absent when its step put it.
@@ -37,4 +38,10 @@ pub fn reset()
 /// A domain that the script does not have is not created, -3, nor one that is alive, -17; and else 0.
 pub fn create()
     ensures { CreatesHaveCauses }
+{}
+
+/// An outcome of a line is `Gone`, and its reply `gone`, exactly where at one of its steps the section's domain was not alive, or was of
+/// another generation. The control section has no such outcome.
+pub fn gone()
+    ensures { LostExactlyWhereAway }
 {}

@@ -1,5 +1,5 @@
 -- Worked examples of the tables of destroy, reset, create and unknown commands.
-use Rattle.std.specs.Prelude.{◌≡◌, [], pos, true}
+use Rattle.std.specs.Prelude.{◌≡◌, [], pos}
 use Rattle.argo_model.specs.declared.reply.Reply.TheVariants.{Number}
 use Rattle.argo_model.specs.Rules.State.{State}
 use Rattle.argo_model.specs.Programs.Program.{command_of}

@@ -1,5 +1,5 @@
 -- Worked examples of the tables of store, load and await.
-use Rattle.std.specs.Prelude.{◌≡◌, ℕ, true, List, [], ◌∷◌, replicate, Some}
+use Rattle.std.specs.Prelude.{◌≡◌, true, [], ◌∷◌}
 use Rattle.argo_model.specs.declared.reply.Reply.TheVariants.{Stored, Hex, Signal, NoSignal, Fault}
 use Rattle.argo_model.specs.Rules.State.{State, signal}
 use Rattle.reply_causes.specs.MemoryCauses.{cause_of_store, cause_of_load, cause_of_await}

@@ -2,7 +2,6 @@
 use Rattle.std.specs.Prelude.{◌≡◌, ℕ, Bool, true, false, List, [], ◌∷◌, ◌++◌, replicate, pos}
 use Rattle.argo_base.specs.Layout.{addr_bytes, ring_data_bytes, ring_data_entry_bytes}
 use Rattle.argo_base.specs.declared.ring_key.RingKey.{RingKey}
-use Rattle.argo_model.specs.declared.reply.Reply.{Reply}
 use Rattle.argo_model.specs.declared.reply.Reply.TheVariants.{Number}
 use Rattle.argo_model.specs.Rules.State.{State, Ring}
 use Rattle.reply_causes.specs.Tables.{Call}

@@ -1,6 +1,6 @@
 -- Worked examples of the table of recv.
 use Rattle.std.specs.Prelude.{◌≡◌, ℕ, true, List, [], ◌∷◌, ◌++◌, replicate, codes}
-use Rattle.argo_base.specs.Layout.{u32_bytes, ring_head_bytes, addr_bytes, message_head_bytes}
+use Rattle.argo_base.specs.Layout.{ring_head_bytes, addr_bytes, message_head_bytes}
 use Rattle.argo_model.specs.declared.reply.Reply.{Reply}
 use Rattle.argo_model.specs.declared.reply.Reply.TheVariants.{Msg, Empty, Bad, Fault}
 use Rattle.argo_model.specs.Rules.State.{State}

@@ -1,13 +1,12 @@
 -- Worked examples of the table of sendv.
 use Rattle.std.specs.Prelude.{◌≡◌, ℕ, ◌^◌, Bool, true, false, List, [], ◌∷◌, ◌++◌, map, replicate, pos}
 use Rattle.std.specs.List.{range_with_len}
-use Rattle.argo_base.specs.declared.ring_key.RingKey.{RingKey}
 use Rattle.argo_base.specs.Layout.{addr_bytes, send_addr_bytes, iov_bytes}
 use Rattle.argo_base.specs.Match.{key_of, wildcard}
 use Rattle.argo_base.specs.Notices.{Notices}
 use Rattle.argo_model.specs.declared.reply.Reply.{Reply}
 use Rattle.argo_model.specs.declared.reply.Reply.TheVariants.{Number}
-use Rattle.argo_model.specs.Rules.State.{State, Domain, Ring}
+use Rattle.argo_model.specs.Rules.State.{State, Domain}
 use Rattle.reply_causes.specs.Tables.{Call}
 use Rattle.reply_causes.specs.Causes.{cause_of_send}
 use Rattle.reply_causes.specs.Examples.Words.{page_with, living, both_of, pageless, departed, small_ring, call_with, minus}
