@@ -177,13 +177,13 @@ module _ (r : Ring) (own : List ℕ) (l : IsLegal r.len) (sized : 64 + r.len ≤
     by true = refl
     by false = length-splice own (u32_bytes start) 4 (omega (arith, length-u32 start))
 
-  start_rx : rx_word (bytes_after_start own r) ≡ rx_word own
+  pub start_rx : rx_word (bytes_after_start own r) ≡ rx_word own
   start_rx = by (is_place r.len (tx_word own)) where
     by : (b : Bool) → rx_word (if b then own else write_tx start own) ≡ rx_word own
     by true = refl
     by false = word_before own (u32_bytes start) 4 (omega arith) 0 (omega arith)
 
-  start_tx : tx_word (bytes_after_start own r) ≡ start
+  pub start_tx : tx_word (bytes_after_start own r) ≡ start
   start_tx = by (is_place r.len (tx_word own)) refl where
     by : (b : Bool) → is_place r.len (tx_word own) ≡ b → tx_word (if b then own else write_tx start own) ≡ start
     by true is = ap (λ (b : Bool). if b then tx_word own else sanitised r.len (rx_word own)) (sym is)

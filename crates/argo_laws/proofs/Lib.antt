@@ -1,0 +1,15 @@
+pub mod Accounts
+pub mod AllSteps
+pub mod BesideLaws
+pub mod Changes
+pub mod CountAll
+pub mod CountOthers
+pub mod CountStarts
+pub mod CountSteps
+pub mod Counts
+pub mod EndSteps
+pub mod Names
+pub mod OtherSteps
+pub mod OwnSteps
+pub mod Rings
+pub mod Sizes
