@@ -7,9 +7,11 @@
 mod beside;
 mod headline;
 mod holding;
+mod replies;
 mod steps;
 
 pub use beside::{equal_words_start_clean, rings_stand_well};
 pub use headline::headline_holds;
 pub use holding::clean_rings_hold;
+pub use replies::replies_have_causes;
 pub use steps::{flags_stay, notices_stand};
