@@ -14,8 +14,6 @@ mod restarts;
 mod ring;
 mod spelling;
 mod start;
-#[cfg(test)]
-mod tests;
 mod waiting;
 mod writes;
 
