@@ -14,6 +14,8 @@ mod restarts;
 mod ring;
 mod spelling;
 mod start;
+#[cfg(test)]
+mod tests;
 mod waiting;
 mod writes;
 
