@@ -20,6 +20,7 @@ use Rattle.state_laws.proofs.Domains.{fit_found}
 use Rattle.state_laws.proofs.OwnPuts.{start_is_place, start_rx, start_tx}
 use Rattle.argo_laws.proofs.Names.{stands}
 use Rattle.argo_laws.proofs.EndSteps.{entry_each}
+use Rattle.reply_causes.proofs.LineLaws.{all_replies_have_causes}
 use Rattle.argo_laws.proofs.AllSteps as steps
 use Rattle.argo_laws.proofs.Accounts as accounts
 
@@ -63,6 +64,7 @@ pub headline : (s : Script) (schedule : List ℕ) → Headline s schedule
 headline s schedule =
     record {
       clean_rings_hold = λ k. accounts.holding s (take k schedule);
+      replies_have_causes = λ k. all_replies_have_causes s (take k schedule);
       notices_stand = λ k. steps.notices s (take k schedule);
       flags_stay = λ k. steps.flags s (take k schedule);
     }

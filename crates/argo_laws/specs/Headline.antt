@@ -6,6 +6,7 @@ use Rattle.argo_model.specs.Laws.Transitions.{transition_at, transitions_of}
 use Rattle.argo_model.specs.Rules.Matches.{RingAt}
 use Rattle.argo_model.specs.Runs.Run.{run}
 use Rattle.argo_model.specs.Runs.Script.{Script}
+use Rattle.reply_causes.specs.Runs.{RepliesHaveCauses}
 use Rattle.argo_laws.specs.Steps.{FlagsStay, NoticesStand}
 
 -- after this schedule each clean ring holds, whole, once and in order, the messages that it accepted since its last start and that
@@ -25,5 +26,6 @@ FlagsStayNext s schedule = (v : ℕ) → IfSome (transition_at (run s schedule) 
 -- at every point of the run of a script under a schedule: after each of its first steps, none and all included
 pub record Headline (s : Script) (schedule : List ℕ) : Type 0 where
   pub clean_rings_hold : (k : ℕ) → CleanRingsHold s (take k schedule)
+  pub replies_have_causes : (k : ℕ) → RepliesHaveCauses s (take k schedule)
   pub notices_stand : (k : ℕ) → NoticesStandNext s (take k schedule)
   pub flags_stay : (k : ℕ) → FlagsStayNext s (take k schedule)

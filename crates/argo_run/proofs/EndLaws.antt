@@ -19,7 +19,7 @@ use Rattle.argo_run.specs.Ends.{IsRead, IsNoScript, IfScript, Agrees, AgreesWith
 use Rattle.argo_run.specs.Serve.{WroteReport, RanScript, ServedFor}
 
 report_is : (seed : ℕ) (script : Script) (shown : Final) → IsRunByPicks script seed shown → IsReport seed script (report_of shown)
-report_is seed script shown ran = (ran.0, ran.1, ap report_of ran.2)
+report_is seed script shown ran = record { schedule = ran.0; picks = ran.1; is = ap report_of ran.2 }
 
 ran_script : (seed : ℕ) (script : Script) (shown : Final) (written written_new : Option (List ℕ)) (rose : Type 0) (status : Status) → IsRunByPicks script seed shown
     → WroteReport (report_of shown) written written_new rose status → RanScript seed script written written_new rose status

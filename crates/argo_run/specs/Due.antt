@@ -16,9 +16,11 @@ usage_text = codes "usage: argo_run threads | serial N | gen N\n"
 abbrev pub fault_text : ScriptFault → List ℕ
 fault_text f = codes "script line " ++ decimal f.line ++ codes ": " ++ kind_text f.kind ++ codes "\n"
 
--- the report of the script under the picks of the seed
-abbrev pub IsReport : ℕ → Script → List ℕ → Type 0
-IsReport seed s text = (schedule : List ℕ) × ArePicks s seed schedule × (text ≡ report_of (final_of s schedule))
+-- the report of the script under the schedule that the seed picks
+pub record IsReport (seed : ℕ) (s : Script) (text : List ℕ) : Type 0 where
+  pub schedule : List ℕ
+  pub picks : ArePicks s seed schedule
+  pub is : text ≡ report_of (final_of s schedule)
 
 -- what is due for what the bytes are: the report of a script, or the line of a fault
 abbrev pub IsDueFor : ℕ → Result Script ScriptFault → List ℕ → Type 0

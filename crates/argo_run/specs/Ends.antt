@@ -6,6 +6,7 @@ use Rattle.argo_outside.specs.Faults.{Rose}
 use Rattle.argo_outside.specs.Source.{behind, IsAtEnd}
 use Rattle.argo_outside.specs.Sink.{appended, CutShort}
 use Rattle.argo_model.specs.Runs.Script.{Script}
+use Rattle.argo_laws.specs.Headline.{Headline}
 use Rattle.script_text.specs.declared.kind.ScriptFault.{ScriptFault}
 use Rattle.script_text.specs.Scripts.{scripts_of}
 use Rattle.argo_run.specs.declared.status.Status.{Status}
@@ -20,7 +21,8 @@ pub record IsRead (old new : Option (List ℕ)) (read : List ℕ) : Type 0 where
   pub told : old ≡ behind read new
   pub all : IsAtEnd new ⊎ (length read ≡ 4194305)
 
--- status 0: the source was read to its end, its bytes are a script, and its report was written whole
+-- status 0: the source was read to its end, its bytes are a script, and its report was written whole; and at every point of the run
+-- that it reports each clean ring holds what was accepted and not taken, each reply has its one cause, and notices and flags stand
 pub record IsDone (seed : ℕ) (left left_new written written_new : Option (List ℕ)) : Type 0 where
   pub read : List ℕ
   pub told : left ≡ behind read left_new
@@ -28,7 +30,8 @@ pub record IsDone (seed : ℕ) (left left_new written written_new : Option (List
   pub script : Script
   pub is_script : scripts_of read ≡ Ok script
   pub text : List ℕ
-  pub is_report : IsReport seed script text
+  pub report : IsReport seed script text
+  pub headline : Headline script report.schedule
   pub whole : written_new ≡ appended written text
 
 -- status 5: the bytes read are no script, and the line of the fault was written whole

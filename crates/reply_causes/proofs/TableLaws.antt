@@ -20,7 +20,7 @@ use Rattle.argo_model.specs.Rules.Act.{act, act_of, act_if_live, act_if_there}
 use Rattle.argo_model.specs.Rules.Effects.{Change, refuse_if}
 use Rattle.argo_model.specs.Rules.Outcomes.{is_gone}
 use Rattle.argo_model.specs.Programs.Asks.{Rests, Say, ask, fetch_all, refuse_if as refuses_if, refuse_at_once_if, read, say_done, unless_gone}
-use Rattle.argo_model.specs.Programs.Recv.{say_if}
+use Rattle.argo_model.specs.Programs.Recv.{end_if}
 use Rattle.argo_model.specs.Laws.Transitions.{Transition}
 use Rattle.argo_model.specs.Laws.SendCauses.{found, says, row}
 use Rattle.reply_causes.specs.Tables.{last_state, unless_lost, case, zero_reply}
@@ -143,7 +143,7 @@ done_closes actor (Flag b) ts r h = (said actor zero_reply ts r h).0
 done_closes actor Gone ts r h = (said actor gone ts r h).0
 
 -- a test that replies
-pub replies-over : (actor : Actor) (b : Bool) (p q : Reply) (k : Rests) (ts : List Transition) (r : Reply) → Ends actor (λ os. say_if b p k os) ts r
+pub replies-over : (actor : Actor) (b : Bool) (p q : Reply) (k : Rests) (ts : List Transition) (r : Reply) → Ends actor (λ os. end_if b (Say p) k os) ts r
     → (Ends actor k ts r → Over q ts r) → Over (case b p q) ts r
 replies-over actor true p q k ts r h later = says-over actor p ts r h
 replies-over actor false p q k ts r h later = later h

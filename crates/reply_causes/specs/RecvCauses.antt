@@ -1,13 +1,13 @@
 -- Why a recv has its reply.
-use Rattle.std.specs.Prelude.{ℕ, ◌+◌, ◌-◌, not, ◌&&◌, ◌==◌, List, length, drop, is_none, unwrap_or, Option, []}
+use Rattle.std.specs.Prelude.{ℕ, ◌+◌, ◌-◌, not, ◌&&◌, ◌==◌, List, length, take, drop, is_none, unwrap_or, Option, []}
 use Rattle.argo_base.specs.declared.piece.Piece.{Piece}
-use Rattle.argo_base.specs.Layout.{u32_at}
+use Rattle.argo_base.specs.Layout.{u16_at, u32_at}
 use Rattle.argo_base.specs.Pieces.{pieces}
 use Rattle.argo_base.specs.Slots.{is_place, place_after}
 use Rattle.argo_model.specs.declared.reply.Reply.{Reply}
-use Rattle.argo_model.specs.declared.reply.Reply.TheVariants.{Empty, Bad, Fault}
+use Rattle.argo_model.specs.declared.reply.Reply.TheVariants.{Msg, Empty, Bad, Fault}
 use Rattle.argo_model.specs.Rules.State.{State}
-use Rattle.argo_model.specs.Programs.Recv.{slot_pieces, received, is_message_head}
+use Rattle.argo_model.specs.Programs.Recv.{slot_pieces, is_message_size}
 use Rattle.argo_model.specs.Laws.SendCauses.{found}
 use Rattle.reply_causes.specs.Tables.{case}
 
@@ -30,6 +30,10 @@ tx_of l = u32_at (unwrap_or l.tx []) 0
 abbrev pub head_of : Looked → List ℕ
 head_of l = unwrap_or l.head []
 
+-- the message with this header and this body, of which the reply shows the first 64 bytes
+abbrev pub received : List ℕ → List ℕ → Reply
+received head body = Msg (u16_at head 8) (u32_at head 4) (u32_at head 12) (u32_at head 0 - 16) (take 64 body)
+
 -- an absent word; a word that is no place of the ring; equal words; an absent header; one that makes no sense; an absent body; an
 -- absent rx word when it was put; or the message
 abbrev pub cause_of_recv : ℕ → Looked → Reply
@@ -39,7 +43,7 @@ cause_of_recv len l =
     case (not (is_place len (rx_of l) && is_place len (tx_of l))) Bad (
     case (rx_of l == tx_of l) Empty (
     case (is_none l.head) Fault (
-    case (not (is_message_head len (rx_of l) (tx_of l) (head_of l))) Bad (
+    case (not (is_message_size len (rx_of l) (tx_of l) (u32_at (head_of l) 0))) Bad (
     case (is_none l.body) Fault (
     case (is_none l.moved) Fault (received (head_of l) (unwrap_or l.body [])))))))))
 

@@ -28,7 +28,7 @@ use Rattle.argo_model.specs.Programs.Program.{if_flag, await, Command, RegisterR
 use Rattle.argo_model.specs.Programs.Register.{register_pages, is_register_head, register_head, register_ring, unregister_head, has_more, unregister_ring}
 use Rattle.argo_model.specs.Programs.Send.{if_gathered, gather, say_accepted, send_load, send_judged, send_iovs, is_send_addr, is_own_source, send_head, sendv}
 use Rattle.argo_model.specs.Programs.Notify.{if_swept, sweep_rings, if_answered, answer_entry, answer_entries, entries_at, notify_head, notify_entries, notify}
-use Rattle.argo_model.specs.Programs.Recv.{say_if, slot_pieces, take_slots, received, recv_body, is_message_head, recv_head, recv_words, recv}
+use Rattle.argo_model.specs.Programs.Recv.{Found, FoundMessage, FoundEmpty, FoundBad, FoundFault, end_if, slot_pieces, take_slots, message_of, recv_body, is_message_size, recv_head, recv_words, recv_tx, say_found, recv}
 use Rattle.state_laws.proofs.Asks.{IsLying, Lie, LieAfter, lie_ask, pieces_in_page, lie_put_all, lie_fetch_all, lie_read, lie_if, lie_at_once, lie_at_once_if, lie_say_done}
 
 -- ---- register and unregister
@@ -163,34 +163,43 @@ lie_notify a1 a2 a3 a4 =
 
 -- ---- recv
 
-lie_say_if : (test : Bool) (r : Reply) (k : Rests) → Lie k → Lie (say_if test r k)
-lie_say_if true r k h os = tt
-lie_say_if false r k h os = h os
+lie_found : (f : Found) → IsLying (say_found f)
+lie_found (FoundMessage size message) = tt
+lie_found FoundEmpty = tt
+lie_found FoundBad = tt
+lie_found FoundFault = tt
 
-lie_slots : (ring len at n : ℕ) (k : List ℕ → Rests) → ((bs : List ℕ) → Lie (k bs)) → Lie (take_slots ring len at n k)
+lie_end_if : (test : Bool) (f : Found) (k : Rests) → Lie k → Lie (end_if test (say_found f) k)
+lie_end_if true f k h os = lie_found f
+lie_end_if false f k h os = h os
+
+lie_slots : (ring len at n : ℕ) (k : List ℕ → Rests) → ((bs : List ℕ) → Lie (k bs)) → Lie (take_slots say_found ring len at n k)
 lie_slots ring len at n k h = lie_fetch_all (slot_pieces ring len at n) [] (Say fault) k tt h
 
 lie_recv : (page len : ℕ) → Lie (recv page len)
 lie_recv page len =
-    lie_fetch_all (pieces ring 4) [] (Say fault) (λ rx os. fetch_all (pieces (ring + 4) 4) [] (Say fault) (λ tx os. recv_words ring len (u32_at rx 0) (u32_at tx 0) os) os) tt
-    (λ rx. lie_fetch_all (pieces (ring + 4) 4) [] (Say fault) (λ tx os. recv_words ring len (u32_at rx 0) (u32_at tx 0) os) tt (λ tx. words (u32_at rx 0) (u32_at tx 0))) where
-      ring : ℕ
-      ring = page * 4096
-
-      body : (rx : ℕ) (head bs : List ℕ) → Lie (recv_body (page * 4096) len rx head bs)
+    lie_fetch_all (pieces (page * 4096) 4) [] (Say fault) (λ rx os. recv_tx say_found (page * 4096) len (u32_at rx 0) os) tt (λ rx. last (u32_at rx 0)) where
+      body : (rx : ℕ) (head bs : List ℕ) → Lie (recv_body say_found (page * 4096) len rx head bs)
       body rx head bs =
-          lie_put_all (pieces (page * 4096) 4) (u32_bytes (place_after len rx (up (u32_at head 0)))) (Say fault) (λ os. Say (received head bs)) (pieces_in_page (page * 4096) 4) tt (λ os. tt)
+          lie_put_all (pieces (page * 4096) 4) (u32_bytes (place_after len rx (up (u32_at head 0)))) (Say fault) (λ os. say_found (FoundMessage (u32_at head 0 - 16) (message_of head bs)))
+          (pieces_in_page (page * 4096) 4) tt (λ os. tt)
 
-      head : (rx tx : ℕ) (bs : List ℕ) → Lie (recv_head (page * 4096) len rx tx bs)
+      head : (rx tx : ℕ) (bs : List ℕ) → Lie (recv_head say_found (page * 4096) len rx tx bs)
       head rx tx bs =
-          lie_say_if (not (is_message_head len rx tx bs)) Bad (λ os. take_slots (page * 4096) len (place_after len rx 16) (u32_at bs 0 - 16) (recv_body (page * 4096) len rx bs) os)
-          (lie_slots (page * 4096) len (place_after len rx 16) (u32_at bs 0 - 16) (recv_body (page * 4096) len rx bs) (body rx bs))
+          lie_end_if (not (is_message_size len rx tx (u32_at bs 0))) FoundBad
+          (λ os. take_slots say_found (page * 4096) len (place_after len rx 16) (u32_at bs 0 - 16) (recv_body say_found (page * 4096) len rx bs) os)
+          (lie_slots (page * 4096) len (place_after len rx 16) (u32_at bs 0 - 16) (recv_body say_found (page * 4096) len rx bs) (body rx bs))
 
-      words : (rx tx : ℕ) → Lie (recv_words (page * 4096) len rx tx)
+      words : (rx tx : ℕ) → Lie (recv_words say_found (page * 4096) len rx tx)
       words rx tx =
-          lie_say_if (not (is_place len rx && is_place len tx)) Bad (λ os. say_if (rx == tx) Empty (λ os. take_slots (page * 4096) len rx 16 (recv_head (page * 4096) len rx tx) os) os)
-          (lie_say_if (rx == tx) Empty (λ os. take_slots (page * 4096) len rx 16 (recv_head (page * 4096) len rx tx) os)
-          (lie_slots (page * 4096) len rx 16 (recv_head (page * 4096) len rx tx) (head rx tx)))
+          lie_end_if (not (is_place len rx && is_place len tx)) FoundBad
+          (λ os. end_if (rx == tx) (say_found FoundEmpty) (λ os. take_slots say_found (page * 4096) len rx 16 (recv_head say_found (page * 4096) len rx tx) os) os)
+          (lie_end_if (rx == tx) FoundEmpty (λ os. take_slots say_found (page * 4096) len rx 16 (recv_head say_found (page * 4096) len rx tx) os)
+          (lie_slots (page * 4096) len rx 16 (recv_head say_found (page * 4096) len rx tx) (head rx tx)))
+
+      last : (rx : ℕ) → Lie (recv_tx say_found (page * 4096) len rx)
+      last rx =
+          lie_fetch_all (pieces (page * 4096 + 4) 4) [] (Say fault) (λ tx os. recv_words say_found (page * 4096) len rx (u32_at tx 0) os) tt (λ tx. words rx (u32_at tx 0))
 
 -- ---- lines
 
