@@ -2,5 +2,7 @@ mod BookLaws
 mod MachineLaws
 mod ReplyLaws
 pub mod RunLaws
+mod StandLaws
 pub mod TestLaws
+mod TotalsLaws
 mod VcpuLaws

@@ -81,7 +81,8 @@ impl Machine {
     /// The domains as they stand, and for each section its replies so far with their steps. All is copied, the domains' memory
     /// too.
     pub fn closed(&self) -> Result<(ClosedDomains, Heard), NoMemory>
-        ensures domains { IfOk result (λ c. c.0 ≡ closed_domains (run self.now.script self.now.schedule).state) }
+        ensures domains { IfOk result
+            (λ c. c.0 ≡ closed_domains (run self.now.script self.now.schedule).state) }
         ensures heard { IfOk result (λ c. c.1 ≡ heard_all (run self.now.script self.now.schedule)) }
     {
         let kept = &self.kept;

@@ -16,7 +16,8 @@ pub(crate) fn heard_of_all(
     steps: &[u64],
 ) -> Result<Heard, NoMemory>
     requires { length steps.now ≡ length done.now }
-    ensures { IfOk result (λ heard. heard ≡ map (heard_among done.now steps.now) (range_with_len 0 sections)) }
+    ensures { IfOk result
+        (λ heard. heard ≡ map (heard_among done.now steps.now) (range_with_len 0 sections)) }
 {
     let mut heard = Heard::new(alloc);
     for v in 0..sections {

@@ -22,9 +22,9 @@ use Rattle.argo_model.specs.Runs.Script.{Script, Section, is_lawful}
 use Rattle.flat_world.specs.World.{is_young_life, is_young_domain, IsYoung}
 use Rattle.flat_world.specs.Flat.{WorldAt, steps_of, IsSmall, IsWorld}
 use Rattle.flat_world.specs.Shown.{are_shown}
-use Rattle.flat_world.proofs.EntryLaws.{all_pass-weaker, all_pass-insert_entry}
-use Rattle.flat_world.proofs.LaidLaws.{both, and_also}
-use Rattle.flat_world.proofs.TestLaws.{le_from}
+use Rattle.flat_live.proofs.EntryLaws.{all_pass-weaker, all_pass-insert_entry}
+use Rattle.flat_live.proofs.LaidLaws.{both, and_also}
+use Rattle.flat_live.proofs.TestLaws.{le_from}
 use Rattle.flat_world.proofs.YoungLaws.{act_young}
 
 le_up : (a m n : ℕ) → m ≤ n → IsTrue (nat_le a m) → IsTrue (nat_le a n)

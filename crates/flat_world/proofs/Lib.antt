@@ -1,15 +1,4 @@
-pub mod LaidLaws
-pub mod PutLaws
-pub mod SpellingLaws
-pub mod OfferLaws
-pub mod EntryLaws
-pub mod LiveLaws
-pub mod NextRingLaws
-pub mod SweepLaws
-pub mod FreePageLaws
-pub mod RegisterLaws
 pub mod WorldLaws
 pub mod YoungLaws
 pub mod OutcomeLaws
-pub mod TestLaws
 pub mod FlatLaws

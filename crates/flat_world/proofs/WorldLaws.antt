@@ -1,14 +1,14 @@
 -- Laws of the world's domains: one that is found, and one that has changed.
-use Rattle.std.proofs.Common.{◌≡◌, ℕ, ◌<◌, ◌≤◌, ◌^◌, Bool, true, false, not, if◌then◌else◌, unwrap_or, nat_le, IsTrue, [], length, Option, Some, None, IfSome, refl, sym, ap, ◌∙◌, arith}
+use Rattle.std.proofs.Common.{◌≡◌, ℕ, ◌<◌, ◌≤◌, ◌^◌, ◌==◌, ◌&&◌, Bool, true, false, not, if◌then◌else◌, unwrap_or, nat_le, IsTrue, List, [], length, Option, Some, None, IfSome, refl, sym, ap, ◌∙◌, arith}
 use Rattle.std.proofs.lemmas.Bool.{false≢true}
 use Rattle.std.proofs.lemmas.Bool.Decides.{nat_tests}
 use Rattle.std.proofs.lemmas.Map.Steps.{set_value_same}
 use Rattle.std.specs.Ordering.{nat_cmp}
 use Rattle.std.specs.BTreeMap.{is_at}
-use Rattle.argo_base.specs.Match.{match_of}
+use Rattle.argo_base.specs.Match.{key_of, match_of}
 use Rattle.argo_base.specs.Notices.{is_busy}
 use Rattle.argo_base.specs.Slots.{fits, is_too_big}
-use Rattle.argo_base.specs.declared.errno.Errno.TheVariants.{ConnRefused, MsgSize, Again, Busy, Fault}
+use Rattle.argo_base.specs.declared.errno.Errno.TheVariants.{Srch, NoEnt, NoDev, ConnRefused, MsgSize, Again, Busy, Fault as EFault}
 use Rattle.argo_base.specs.declared.ring_key.RingKey.{RingKey}
 use Rattle.argo_model.specs.declared.action.Load.{Load}
 use Rattle.argo_model.specs.declared.action.Load.TheVariants.{Body, Faulted, Refused as RefusedLoad}
@@ -18,14 +18,18 @@ use Rattle.argo_model.specs.Rules.RingBytes.{PagedRing, paged, free}
 use Rattle.argo_model.specs.declared.scripts.Actor.TheVariants.{Vcpu}
 use Rattle.argo_model.specs.declared.action.Action.{Action}
 use Rattle.argo_model.specs.declared.action.Action.TheVariants.{Rest, Fetch, Put, Register, Unregister, Deliver, Sweep, Query, Look, Destroy, Reset, Create}
-use Rattle.argo_model.specs.declared.action.Outcome.TheVariants.{Refused, Answer as Answered}
-use Rattle.argo_model.specs.Rules.State.{State, Domain, Live, Ring, domain_of, set_domain, life_in, signal_all, change_found}
-use Rattle.argo_model.specs.Rules.Act.{act, act_of, act_if_there, act_if_live}
+use Rattle.argo_model.specs.declared.action.Outcome.TheVariants.{Done, Fault, Refused, Answer as Answered}
+use Rattle.argo_model.specs.Rules.State.{State, Domain, Live, Ring, domain_of, set_domain, life_in, signal_all, change_found, is_alive, is_on, has_page}
+use Rattle.argo_model.specs.Rules.Act.{act, act_of, act_if_there, act_if_live, put}
 use Rattle.argo_model.specs.Rules.Effects.{Change, change_in, set_left, with_life, answered, refused, leaving, refuse_if, after}
-use Rattle.flat_world.specs.Own.{own_change, own_if_live, with_left}
-use Rattle.flat_world.specs.World.{accepted_signals, caller_on, on_if_live, on_if_there, partner_for, is_own, is_young_life, is_young_domain, IsYoung}
-use Rattle.flat_world.proofs.EntryLaws.{all_pass-lookup}
-use Rattle.flat_world.proofs.LaidLaws.{both}
+use Rattle.argo_model.specs.Rules.Puts.{put_into}
+use Rattle.argo_model.specs.Rules.Register.{is_single, has_ring, without_ring, register, register_own}
+use Rattle.flat_live.specs.Live.{take_away}
+use Rattle.flat_live.specs.Own.{is_own, own_change}
+use Rattle.flat_world.specs.Domain.{own_if_live, sweep_if_live, with_left}
+use Rattle.flat_world.specs.World.{accepted_signals, caller_on, on_if_live, on_if_there, is_young_life, is_young_domain, IsYoung}
+use Rattle.flat_live.proofs.EntryLaws.{all_pass-lookup}
+use Rattle.flat_live.proofs.LaidLaws.{both}
 
 -- a domain put back as it was changes nothing
 pub set_domain-same : (s : State) (d : ℕ) (x : Domain) → domain_of s d ≡ Some x → set_domain s d x ≡ s
@@ -40,15 +44,15 @@ pub changed : (s : State) (d : ℕ) (x : Domain) (c : Change Live) → domain_of
     → change_in s d c ≡ record { outcome = c.outcome; state = signal_all (set_domain s d (with_left x c.left)) c.signals }
 changed s d x c there = ap (λ t. record { outcome = c.outcome; state = signal_all t c.signals }) (set_left-there s d x c.left there)
 
--- an act of a domain on itself, where it lives
-own_lives : (s : State) (d : ℕ) (x : Domain) (live : Live) (a : Action) → IsTrue (is_own a) → act_of s d x live a ≡ change_in s d (own_change (partner_for s a) x.on live a)
+-- an act of a domain on what it has itself, where it lives
+own_lives : (s : State) (d : ℕ) (x : Domain) (live : Live) (a : Action) → IsTrue (is_own a) → act_of s d x live a ≡ change_in s d (own_change x.on live a)
 own_lives s d x live Rest own = refl
 own_lives s d x live (Fetch page off n) own = refl
 own_lives s d x live (Put page off bytes) own = refl
-own_lives s d x live (Register port partner len pages fail_exist) own = refl
+own_lives s d x live (Register port partner len pages fail_exist) own = absurd (false≢true own)
 own_lives s d x live (Unregister port partner) own = refl
 own_lives s d x live (Deliver port to to_port kind load) own = absurd (false≢true own)
-own_lives s d x live (Sweep after) own = refl
+own_lives s d x live (Sweep serial) own = absurd (false≢true own)
 own_lives s d x live (Query to to_port need) own = absurd (false≢true own)
 own_lives s d x live Look own = refl
 own_lives s d x live (Destroy dom) own = absurd (false≢true own)
@@ -56,11 +60,59 @@ own_lives s d x live (Reset dom) own = absurd (false≢true own)
 own_lives s d x live (Create dom) own = absurd (false≢true own)
 
 pub own_acts : (s : State) (d generation : ℕ) (x : Domain) (a : Action) → IsTrue (is_own a) → domain_of s d ≡ Some x
-    → act (Vcpu d generation) a s ≡ change_in s d (own_if_live (partner_for s a) x.on (life_in generation x) a)
+    → act (Vcpu d generation) a s ≡ change_in s d (own_if_live x.on (life_in generation x) a)
 own_acts s d generation x a own there = ap (λ o. act_if_there s d generation o a) there ∙ by (life_in generation x) where
-  by : (life : Option Live) → act_if_live s d x life a ≡ change_in s d (own_if_live (partner_for s a) x.on life a)
+  by : (life : Option Live) → act_if_live s d x life a ≡ change_in s d (own_if_live x.on life a)
   by None = refl
   by (Some live) = own_lives s d x live a own
+
+-- it signals nobody
+put_quiet : (live : Live) (page off : ℕ) (bytes : List ℕ) → (put live page off bytes).signals ≡ []
+put_quiet live page off bytes = by (has_page live page) where
+  by : (b : Bool) → (if b then leaving Done (put_into live page off bytes) else answered {X = Live} Fault).signals ≡ []
+  by true = refl
+  by false = refl
+
+take_quiet : (on : Bool) (live : Live) (key : RingKey) → (refuse_if (not on) NoDev (take_away live key)).signals ≡ []
+take_quiet on live key = by on (has_ring live key) where
+  by : (on has : Bool) → (refuse_if (not on) NoDev (refuse_if (not has) NoEnt (leaving Done (without_ring live key)))).signals ≡ []
+  by true true = refl
+  by true false = refl
+  by false has = refl
+
+pub own_quiet : (on : Bool) (life : Option Live) (a : Action) → (own_if_live on life a).signals ≡ []
+own_quiet on None a = refl
+own_quiet on (Some live) Rest = refl
+own_quiet on (Some live) (Fetch page off n) = refl
+own_quiet on (Some live) (Put page off bytes) = put_quiet live page off bytes
+own_quiet on (Some live) (Register port partner len pages fail_exist) = refl
+own_quiet on (Some live) (Unregister port partner) = take_quiet on live (key_of port partner)
+own_quiet on (Some live) (Deliver port to to_port kind load) = refl
+own_quiet on (Some live) (Sweep serial) = refl
+own_quiet on (Some live) (Query to to_port need) = refl
+own_quiet on (Some live) Look = refl
+own_quiet on (Some live) (Destroy dom) = refl
+own_quiet on (Some live) (Reset dom) = refl
+own_quiet on (Some live) (Create dom) = refl
+
+-- a sweep
+pub sweep_acts : (s : State) (d generation : ℕ) (x : Domain) (serial : ℕ) → domain_of s d ≡ Some x
+    → act (Vcpu d generation) (Sweep serial) s ≡ change_in s d (sweep_if_live x (life_in generation x) serial)
+sweep_acts s d generation x serial there = ap (λ o. act_if_there s d generation o (Sweep serial)) there ∙ by (life_in generation x) where
+  by : (life : Option Live) → act_if_live s d x life (Sweep serial) ≡ change_in s d (sweep_if_live x life serial)
+  by None = refl
+  by (Some live) = refl
+
+-- a registration that neither its partner nor its caller is in the way of
+pub registered : (s : State) (d : ℕ) (x : Domain) (live : Live) (key : RingKey) (len : ℕ) (pages : List ℕ) (fail_exist : Bool)
+    → (is_single key.partner && not (is_alive s key.partner)) ≡ false → x.on ≡ true → (is_single key.partner && not (is_on s key.partner)) ≡ false
+    → register s d x live key len pages fail_exist ≡ change_in s d (register_own live key len pages fail_exist)
+registered s d x live key len pages fail_exist alive on partner_on =
+    let rest = register_own live key len pages fail_exist in
+    let last = refuse_if (is_single key.partner && not (is_on s key.partner)) ConnRefused rest in
+    ap (λ b. change_in s d (refuse_if b Srch (refuse_if (not x.on) NoDev last))) alive
+    ∙ ap (λ b. change_in s d (refuse_if (not b) NoDev last)) on
+    ∙ ap (λ b. change_in s d (refuse_if b ConnRefused rest)) partner_on
 
 -- what is young
 young_life_of : (n : ℕ) (life : Option Live) → IsTrue (is_young_life n life) → IfSome life (λ live. live.next_serial ≤ n)
@@ -86,6 +138,13 @@ young_enough x h = by x.life (both (nat_le x.generation (2 ^ 62)) (is_young_life
 pub life_in-own : (g : ℕ) (x : Domain) → x.generation ≡ g → life_in g x ≡ x.life
 life_in-own g x h = grind (arith, nat_tests)
 
+-- what a domain is found to have alive is its life
+life_in-some : (g : ℕ) (x : Domain) (live : Live) → life_in g x ≡ Some live → x.life ≡ Some live
+life_in-some g x live found = by (x.generation == g) found where
+  by : (b : Bool) → (if b then x.life else None) ≡ Some live → x.life ≡ Some live
+  by true h = h
+  by false h = cc
+
 -- a domain that lives, after a change of what it has alive
 pub life_after : (x : Domain) (live : Live) (c : Change Live) → x.life ≡ Some live → record x { life = Some (after live c) } ≡ with_left x c.left
 life_after x live c lives = by c.left where
@@ -99,6 +158,8 @@ life_after x live c lives = by c.left where
 pub record Calls (s : State) (d generation : ℕ) (on : Bool) : Type 0 where
   pub domain : Domain
   pub live : Live
+  pub here : domain_of s d ≡ Some domain
+  pub lives : domain.life ≡ Some live
   pub is_on : domain.on ≡ on
   pub acts : (a : Action) → act (Vcpu d generation) a s ≡ act_of s d domain live a
 
@@ -109,6 +170,8 @@ calls s d generation on found = there (domain_of s d) refl found where
   lives x here (Some live) is found = record {
     domain = x;
     live = live;
+    here = here;
+    lives = life_in-some generation x live is;
     is_on = cc;
     acts = λ a. ap (λ o. act_if_there s d generation o a) here ∙ ap (λ o. act_if_live s d x o a) is;
   }
@@ -146,7 +209,7 @@ fits_signals p owner sender n rest same = by (is_too_big p.ring.len n) (fits (fr
 
 offer_signals : (p : PagedRing) (owner : ℕ) (o : Offer) (load : Load) → (offer_load p owner o load).signals ≡ accepted_signals owner (offer_load p owner o load).outcome
 offer_signals p owner o (Body bytes) = fits_signals p owner o.sender (length bytes) (accepted p owner (message_of o bytes)) refl
-offer_signals p owner o (Faulted n) = fits_signals p owner o.sender n (refused Fault) refl
+offer_signals p owner o (Faulted n) = fits_signals p owner o.sender n (refused EFault) refl
 offer_signals p owner o (RefusedLoad e) = refl
 
 pub offer_signals_accepted : (to port : ℕ) (o : Offer) (x : Domain)

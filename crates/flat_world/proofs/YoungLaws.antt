@@ -24,8 +24,8 @@ use Rattle.argo_model.specs.Rules.Register.{own_ring, has_ring, are_free_for, is
 use Rattle.argo_model.specs.Rules.RingBytes.{PagedRing, paged, set_paged}
 use Rattle.argo_model.specs.Rules.Sweep.{sweep_found, sweep_ring, next_ring}
 use Rattle.flat_world.specs.World.{is_young_life, is_young_domain, IsYoung}
-use Rattle.flat_world.proofs.EntryLaws.{all_pass-set_value, all_pass-map, all_pass-weaker}
-use Rattle.flat_world.proofs.LaidLaws.{both, and_also}
+use Rattle.flat_live.proofs.EntryLaws.{all_pass-set_value, all_pass-map, all_pass-weaker}
+use Rattle.flat_live.proofs.LaidLaws.{both, and_also}
 use Rattle.flat_world.proofs.WorldLaws.{young_found}
 
 abbrev YoungLife : ℕ → Option Live → Type 0

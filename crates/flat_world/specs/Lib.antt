@@ -1,10 +1,4 @@
+pub mod Domain
 pub mod Flat
-pub mod FreePages
-pub mod Live
-pub mod Memory
-pub mod Offers
-pub mod Own
 pub mod Shown
-pub mod Starts
-pub mod Sweeps
 pub mod World

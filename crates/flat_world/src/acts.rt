@@ -5,10 +5,10 @@ ghost use Rattle.argo_model.specs.Rules.Act.{act, act_of_control};
 ghost use Rattle.argo_model.specs.Rules.Fit.{is_fit};
 ghost use Rattle.flat_world.specs.World.{IsYoung};
 
-use crate::offers::Offer;
 use crate::world::World;
-use argo_base::{DomId, NoMemory};
+use argo_base::{DomId, NoMemory, RingKey};
 use argo_model::{Action, Actor, Outcome};
+use flat_live::{Offer, Registration};
 use std::alloc::Global;
 
 impl World {
@@ -21,7 +21,8 @@ impl World {
     ) -> Result<Outcome, NoMemory>
         requires fit { IsTrue (is_fit action) }
         requires young { IsYoung (2 ^ 62) self.old }
-        ensures ok { IfOk result (λ o. act actor action self.old ≡ record { outcome = o; state = self.new }) }
+        ensures ok { IfOk result
+            (λ o. act actor action self.old ≡ record { outcome = o; state = self.new }) }
         ensures err { OnErr result (self.new ≡ self.old) }
     {
         match actor {
@@ -40,10 +41,28 @@ impl World {
     ) -> Result<Outcome, NoMemory>
         requires fit { IsTrue (is_fit action) }
         requires young { IsYoung (2 ^ 62) self.old }
-        ensures ok { IfOk result (λ o. act (Vcpu dom generation) action self.old ≡ record { outcome = o; state = self.new }) }
+        ensures ok { IfOk result
+            (λ o. act (Vcpu dom generation) action self.old
+            ≡ record { outcome = o; state = self.new }) }
         ensures err { OnErr result (self.new ≡ self.old) }
     {
         match action {
+            Action::Register {
+                port,
+                partner,
+                len,
+                pages,
+                fail_exist,
+            } => {
+                let r = Registration {
+                    key: RingKey { port, partner },
+                    len,
+                    pages,
+                    fail_exist,
+                };
+                self.register(alloc, dom, generation, r)
+            }
+            Action::Sweep { after } => self.sweep(alloc, dom, generation, after),
             Action::Deliver {
                 port,
                 to,
@@ -73,7 +92,8 @@ impl World {
     // Performs an action of the control section.
     fn control_act(&mut self, alloc: Global, action: Action) -> Result<Outcome, NoMemory>
         requires young { IsYoung (2 ^ 62) self.old }
-        ensures ok { IfOk result (λ o. act_of_control self.old action ≡ record { outcome = o; state = self.new }) }
+        ensures ok { IfOk result
+            (λ o. act_of_control self.old action ≡ record { outcome = o; state = self.new }) }
         ensures err { OnErr result (self.new ≡ self.old) }
     {
         match action {

@@ -1,19 +1,16 @@
 //! A domain of the world.
-ghost use Rattle.std.specs.Prelude.{◌≡◌, ◌<◌, ◌^◌, Some, IsTrue, IfOk, IfSome, OnOk, OnErr};
+ghost use Rattle.std.specs.Prelude.{◌≡◌, ◌<◌, ◌^◌, Some, IsTrue, IfOk, IfSome, OnOk, OnErr, length};
+ghost use Rattle.argo_base.specs.Slots.{is_legal, page_count};
 ghost use Rattle.argo_model.specs.Rules.Deliver.{offer_to_domain};
 ghost use Rattle.argo_model.specs.Rules.Destroy.{gone_domain, live_without, reset_live, next_domain};
 ghost use Rattle.argo_model.specs.Rules.Fit.{is_fit, is_fit_load};
 ghost use Rattle.argo_model.specs.Rules.Query.{query_domain};
-ghost use Rattle.argo_model.specs.Rules.State.{change_life, signalled, life_in};
-ghost use Rattle.flat_world.specs.Own.{own_if_live, with_left};
+ghost use Rattle.argo_model.specs.Rules.State.{change_life, signalled};
+ghost use Rattle.flat_world.specs.Domain.{own_in, register_in, sweep_in, with_left};
 
-use crate::change::Change;
-use crate::live::Live;
-use crate::offers::Offer;
-use crate::own::Partner;
-use crate::queries::NO_ANSWER;
 use argo_base::{DomId, Errno, NoMemory};
 use argo_model::{Action, Outcome};
+use flat_live::{Change, Live, NO_ANSWER, Offer, Registration};
 use std::alloc::Global;
 use std::marker::Model;
 
@@ -31,26 +28,52 @@ impl Model for Domain {
 
     ghost Value = { TheDomain };
 
-    ghost view = { λ x. record { on = x.on; pages = x.pages; generation = x.generation; life = x.life } };
+    ghost view = { λ x. record {
+      on = x.on;
+      pages = x.pages;
+      generation = x.generation;
+      life = x.life;
+    } };
 }
 
 impl Domain {
-    /// An act of the domain on itself, where it lives in this generation. Where memory runs out all stays.
+    /// An act of the domain on what it has itself, where it lives in this generation. Where memory runs out all stays.
     pub(crate) fn act(
         &mut self,
         alloc: Global,
         generation: u32,
-        partner: Partner,
         action: Action,
-    ) -> Result<Change, NoMemory>
-        requires fit { IsTrue (is_fit action) }
-        requires young { IfSome self.old.life (λ live. live.next_serial < 2 ^ 63) }
-        ensures outcome { IfOk result
-            (λ c. c.outcome ≡ (own_if_live partner self.old.on (life_in generation self.old) action).outcome) }
-        ensures signals { IfOk result
-            (λ c. c.signals.items ≡ (own_if_live partner self.old.on (life_in generation self.old) action).signals) }
+    ) -> Result<Outcome, NoMemory>
+        requires { IsTrue (is_fit action) }
+        ensures outcome { IfOk result (λ o. o ≡ (own_in generation self.old action).outcome) }
         ensures left { OnOk result
-            (self.new ≡ with_left self.old (own_if_live partner self.old.on (life_in generation self.old) action).left) }
+            (self.new ≡ with_left self.old (own_in generation self.old action).left) }
+        ensures err { OnErr result (self.new ≡ self.old) }
+    {
+        if self.generation != generation as u64 {
+            return Ok(Outcome::Gone);
+        }
+        let on = self.on;
+        let Some(live) = &mut self.life else {
+            return Ok(Outcome::Gone);
+        };
+        let outcome = live.act(alloc, on, action)?;
+        Ok(outcome)
+    }
+
+    /// Sweeps the domain's next ring, where it lives in this generation. Where memory runs out all stays.
+    pub(crate) fn sweep(
+        &mut self,
+        alloc: Global,
+        generation: u32,
+        serial: u64,
+    ) -> Result<Change, NoMemory>
+        ensures outcome { IfOk result
+            (λ c. c.outcome ≡ (sweep_in generation self.old serial).outcome) }
+        ensures signals { IfOk result
+            (λ c. c.signals.items ≡ (sweep_in generation self.old serial).signals) }
+        ensures left { OnOk result
+            (self.new ≡ with_left self.old (sweep_in generation self.old serial).left) }
         ensures err { OnErr result (self.new ≡ self.old) }
     {
         if self.generation != generation as u64 {
@@ -60,7 +83,29 @@ impl Domain {
         let Some(live) = &mut self.life else {
             return Ok(Change::quiet(alloc, Outcome::Gone));
         };
-        let change = live.act(alloc, on, partner, action)?;
+        if !on {
+            return Ok(Change::quiet(alloc, Outcome::Refused(Errno::NoDev)));
+        }
+        let change = live.sweep(alloc, serial)?;
+        Ok(change)
+    }
+
+    /// Registers a ring of the domain, where it is alive, among its own. Where memory runs out all stays.
+    pub(crate) fn register(&mut self, alloc: Global, r: Registration) -> Result<Change, NoMemory>
+        requires legal { IsTrue (is_legal r.len) }
+        requires counted { length r.pages ≡ page_count r.len }
+        requires young { IfSome self.old.life (λ live. live.next_serial < 2 ^ 63) }
+        ensures outcome { IfOk result (λ c. c.outcome ≡ (register_in self.old r).outcome) }
+        ensures signals { IfOk result
+            (λ c. c.signals.items ≡ (register_in self.old r).signals) }
+        ensures left { OnOk result
+            (self.new ≡ with_left self.old (register_in self.old r).left) }
+        ensures err { OnErr result (self.new ≡ self.old) }
+    {
+        let Some(live) = &mut self.life else {
+            return Ok(Change::quiet(alloc, Outcome::Gone));
+        };
+        let change = live.register(alloc, r)?;
         Ok(change)
     }
 
@@ -72,8 +117,10 @@ impl Domain {
         sent: Offer,
     ) -> Result<Outcome, NoMemory>
         requires { IsTrue (is_fit_load sent.load) }
-        ensures outcome { IfOk result (λ o. o ≡ (offer_to_domain to to_port sent (Some self.old)).outcome) }
-        ensures left { OnOk result (self.new ≡ with_left self.old (offer_to_domain to to_port sent (Some self.old)).left) }
+        ensures outcome { IfOk result
+            (λ o. o ≡ (offer_to_domain to to_port sent (Some self.old)).outcome) }
+        ensures left { OnOk result
+            (self.new ≡ with_left self.old (offer_to_domain to to_port sent (Some self.old)).left) }
         ensures err { OnErr result (self.new ≡ self.old) }
     {
         if !self.on {
@@ -93,8 +140,10 @@ impl Domain {
         sender: DomId,
         need: u32,
     ) -> Result<Outcome, NoMemory>
-        ensures outcome { IfOk result (λ o. o ≡ (query_domain sender port need (Some self.old)).outcome) }
-        ensures left { OnOk result (self.new ≡ with_left self.old (query_domain sender port need (Some self.old)).left) }
+        ensures outcome { IfOk result
+            (λ o. o ≡ (query_domain sender port need (Some self.old)).outcome) }
+        ensures left { OnOk result
+            (self.new ≡ with_left self.old (query_domain sender port need (Some self.old)).left) }
         ensures err { OnErr result (self.new ≡ self.old) }
     {
         if !self.on {
@@ -111,7 +160,7 @@ impl Domain {
         ensures { self.new ≡ signalled self.old }
     {
         if let Some(live) = &mut self.life {
-            live.flag = true;
+            live.signal();
         }
     }
 

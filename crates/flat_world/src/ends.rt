@@ -37,7 +37,8 @@ impl World {
     /// Makes a domain that has ended anew, in its next generation. Where memory runs out the world stays.
     pub(crate) fn create(&mut self, alloc: Global, dom: DomId) -> Result<Outcome, NoMemory>
         requires young { IsYoung (2 ^ 62) self.old }
-        ensures ok { IfOk result (λ o. ends.create self.old dom ≡ record { outcome = o; state = self.new }) }
+        ensures ok { IfOk result
+            (λ o. ends.create self.old dom ≡ record { outcome = o; state = self.new }) }
         ensures err { OnErr result (self.new ≡ self.old) }
     {
         let Some(domain) = self.domains.get_mut(&dom) else {

@@ -29,9 +29,17 @@ impl Model for FlatWorld {
 
     ghost Value = { WorldAt };
 
-    ghost view = { λ w. record { state = w.world; actors = w.actors.items; totals = w.totals.items } };
+    ghost view = { λ w. record {
+      state = w.world;
+      actors = w.actors.items;
+      totals = w.totals.items;
+    } };
 
-    ghost invariant = { λ w. IsWorld (record { state = w.world; actors = w.actors.items; totals = w.totals.items }) };
+    ghost invariant = { λ w. IsWorld (record {
+      state = w.world;
+      actors = w.actors.items;
+      totals = w.totals.items;
+    }) };
 }
 
 impl Access for FlatWorld {

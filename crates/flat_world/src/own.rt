@@ -1,108 +1,112 @@
-//! Acts of a domain on itself.
-ghost use Rattle.std.specs.Prelude.{◌≡◌, ◌<◌, ◌^◌, IsTrue, IfOk, OnOk, OnErr};
-ghost use Rattle.argo_model.specs.declared.action.Action.TheVariants.{Register as Registers};
-ghost use Rattle.argo_model.specs.Rules.Effects.{after};
+//! Acts of a domain on what it has itself, and what others are told of it.
+ghost use Rattle.std.specs.Prelude.{◌≡◌, ◌^◌, ◌&&◌, not, IsTrue, IfOk, OnErr};
+ghost use Rattle.argo_model.specs.declared.action.Action.TheVariants.{Sweep as Sweeps};
+ghost use Rattle.argo_model.specs.declared.scripts.Actor.TheVariants.{Vcpu};
+ghost use Rattle.argo_model.specs.Rules.Act.{act};
 ghost use Rattle.argo_model.specs.Rules.Fit.{is_fit};
-ghost use Rattle.flat_world.specs.Own.{own_change};
+ghost use Rattle.argo_model.specs.Rules.Register.{is_single};
+ghost use Rattle.argo_model.specs.Rules.State as state;
+ghost use Rattle.flat_live.specs.Own.{is_own};
+ghost use Rattle.flat_world.specs.Domain.{registers};
+ghost use Rattle.flat_world.specs.World.{IsYoung};
 
-use crate::change::Change;
-use crate::live::Live;
-use crate::registers::Registration;
-use argo_base::{Errno, NoMemory, RingKey};
+use crate::world::World;
+use argo_base::{DomId, Errno, NoMemory};
 use argo_model::{Action, Outcome};
+use flat_live::Registration;
 use std::alloc::Global;
 
-/// What a single partner is not: alive, and on. The wildcard lacks neither.
-#[derive(Clone, Copy)]
-pub(crate) struct Partner {
-    pub(crate) missing: bool,
-    pub(crate) off: bool,
-}
-
-impl Live {
-    /// An act of this domain on itself, which is on or off. Where memory runs out all stays.
-    pub(crate) fn act(
+impl World {
+    /// An act of a domain on what it has itself. Where memory runs out the world stays.
+    pub(crate) fn own_act(
         &mut self,
         alloc: Global,
-        on: bool,
-        partner: Partner,
+        dom: DomId,
+        generation: u32,
         action: Action,
-    ) -> Result<Change, NoMemory>
+    ) -> Result<Outcome, NoMemory>
         requires fit { IsTrue (is_fit action) }
-        requires young { self.old.next_serial < 2 ^ 63 }
-        ensures outcome { IfOk result (λ c. c.outcome ≡ (own_change partner on self.old action).outcome) }
-        ensures signals { IfOk result (λ c. c.signals.items ≡ (own_change partner on self.old action).signals) }
-        ensures left { OnOk result (self.new ≡ after self.old (own_change partner on self.old action)) }
+        requires own { IsTrue (is_own action) }
+        ensures ok { IfOk result
+            (λ o. act (Vcpu dom generation) action self.old
+            ≡ record { outcome = o; state = self.new }) }
         ensures err { OnErr result (self.new ≡ self.old) }
     {
-        match action {
-            Action::Fetch { page, off, n } => {
-                let outcome = self.fetch(alloc, page, off, n)?;
-                Ok(Change::quiet(alloc, outcome))
-            }
-            Action::Put { page, off, bytes } => {
-                let outcome = self.put(page, off, bytes.as_slice());
-                Ok(Change::quiet(alloc, outcome))
-            }
-            Action::Register {
-                port,
-                partner: of,
-                len,
-                pages,
-                fail_exist,
-            } => {
-                let key = RingKey { port, partner: of };
-                let registration = Registration {
-                    key,
-                    len,
-                    pages,
-                    fail_exist,
-                };
-                self.register_with(alloc, on, partner, registration)
-            }
-            Action::Unregister { port, partner } if on => {
-                let outcome = self.unregister(RingKey { port, partner });
-                Ok(Change::quiet(alloc, outcome))
-            }
-            Action::Sweep { after } if on => self.sweep(alloc, after),
-            Action::Unregister { .. } | Action::Sweep { .. } => {
-                Ok(Change::quiet(alloc, Outcome::Refused(Errno::NoDev)))
-            }
-            Action::Look => {
-                let outcome = self.look();
-                Ok(Change::quiet(alloc, outcome))
-            }
-            _ => Ok(Change::quiet(alloc, Outcome::Done)),
-        }
+        let Some(domain) = self.domains.get_mut(&dom) else {
+            return Ok(Outcome::Gone);
+        };
+        let outcome = domain.act(alloc, generation, action)?;
+        Ok(outcome)
     }
 
-    // Registers a ring for such a partner.
-    fn register_with(
+    /// A caller sweeps its next ring. Where memory runs out the world stays.
+    pub(crate) fn sweep(
         &mut self,
         alloc: Global,
-        on: bool,
-        partner: Partner,
-        r: Registration,
-    ) -> Result<Change, NoMemory>
-        requires fit { IsTrue (is_fit (Registers r.key.port r.key.partner r.len r.pages r.fail_exist)) }
-        requires young { self.old.next_serial < 2 ^ 63 }
-        ensures outcome { IfOk result
-            (λ c. c.outcome ≡ (own_change partner on self.old (Registers r.key.port r.key.partner r.len r.pages r.fail_exist)).outcome) }
-        ensures signals { IfOk result
-            (λ c. c.signals.items ≡ (own_change partner on self.old (Registers r.key.port r.key.partner r.len r.pages r.fail_exist)).signals) }
-        ensures left { OnOk result
-            (self.new ≡ after self.old (own_change partner on self.old (Registers r.key.port r.key.partner r.len r.pages r.fail_exist))) }
+        dom: DomId,
+        generation: u32,
+        serial: u64,
+    ) -> Result<Outcome, NoMemory>
+        ensures ok { IfOk result
+            (λ o. act (Vcpu dom generation) (Sweeps serial) self.old
+            ≡ record { outcome = o; state = self.new }) }
         ensures err { OnErr result (self.new ≡ self.old) }
     {
-        if partner.missing {
-            return Ok(Change::quiet(alloc, Outcome::Refused(Errno::Srch)));
+        let Some(domain) = self.domains.get_mut(&dom) else {
+            return Ok(Outcome::Gone);
+        };
+        let change = domain.sweep(alloc, generation, serial)?;
+        self.signal_all(change.signals.as_slice());
+        Ok(change.outcome)
+    }
+
+    /// A caller registers a ring. Where memory runs out the world stays.
+    pub(crate) fn register(
+        &mut self,
+        alloc: Global,
+        dom: DomId,
+        generation: u32,
+        r: Registration,
+    ) -> Result<Outcome, NoMemory>
+        requires fit { IsTrue (is_fit (registers r)) }
+        requires young { IsYoung (2 ^ 62) self.old }
+        ensures ok { IfOk result
+            (λ o. act (Vcpu dom generation) (registers r) self.old
+            ≡ record { outcome = o; state = self.new }) }
+        ensures err { OnErr result (self.new ≡ self.old) }
+    {
+        let key = r.key;
+        let Some(on) = self.caller(dom, generation) else {
+            return Ok(Outcome::Gone);
+        };
+        if self.is_missing(key.partner) {
+            return Ok(Outcome::Refused(Errno::Srch));
         }
         if !on {
-            return Ok(Change::quiet(alloc, Outcome::Refused(Errno::NoDev)));
+            return Ok(Outcome::Refused(Errno::NoDev));
         }
-        if partner.off {
-            return Ok(Change::quiet(alloc, Outcome::Refused(Errno::ConnRefused)));
+        if self.is_off(key.partner) {
+            return Ok(Outcome::Refused(Errno::ConnRefused));
         }
-        self.register(alloc, r)
+        let Some(domain) = self.domains.get_mut(&dom) else {
+            return Ok(Outcome::Gone);
+        };
+        let change = domain.register(alloc, r)?;
+        self.signal_all(change.signals.as_slice());
+        Ok(change.outcome)
+    }
+
+    // Whether a single partner is not alive. The wildcard never is missing.
+    fn is_missing(&self, partner: DomId) -> bool
+        ensures { result ≡ (is_single partner && not (state.is_alive self.now partner)) }
+    {
+        !partner.is_any() && !self.is_alive(partner)
+    }
+
+    // Whether a single partner is not on. The wildcard never is off.
+    fn is_off(&self, partner: DomId) -> bool
+        ensures { result ≡ (is_single partner && not (state.is_on self.now partner)) }
+    {
+        !partner.is_any() && !self.is_on(partner)
     }
 }

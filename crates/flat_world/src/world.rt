@@ -1,19 +1,16 @@
 //! The domains of the world as they stand.
-ghost use Rattle.std.specs.Prelude.{◌≡◌, ◌^◌, IsTrue, IfOk, OnErr};
+ghost use Rattle.std.specs.Prelude.{◌≡◌, IsTrue, IfOk, OnErr};
 ghost use Rattle.argo_model.specs.declared.action.Action.TheVariants.{Deliver, Query};
 ghost use Rattle.argo_model.specs.declared.scripts.Actor.TheVariants.{Vcpu};
 ghost use Rattle.argo_model.specs.Rules.Act.{act};
-ghost use Rattle.argo_model.specs.Rules.Fit.{is_fit, is_fit_load};
+ghost use Rattle.argo_model.specs.Rules.Fit.{is_fit_load};
 ghost use Rattle.argo_model.specs.Rules.State as state;
-ghost use Rattle.flat_world.specs.World.{accepted_signals, caller_on, partner_in, partner_for, is_own, IsYoung};
+ghost use Rattle.flat_world.specs.World.{accepted_signals, caller_on};
 
 use crate::domain::Domain;
-use crate::live::Live;
-use crate::offers::Offer;
-use crate::own::Partner;
-use crate::queries::NO_ANSWER;
 use argo_base::{DomId, Errno, NoMemory};
-use argo_model::{Action, DomainLine, Outcome};
+use argo_model::{DomainLine, Outcome};
+use flat_live::{Live, NO_ANSWER, Offer};
 use std::alloc::Global;
 use std::collections::BTreeMap;
 use std::marker::Model;
@@ -55,7 +52,7 @@ impl World {
     }
 
     /// Whether the domain is there, and on.
-    fn is_on(&self, dom: DomId) -> bool
+    pub(crate) fn is_on(&self, dom: DomId) -> bool
         ensures { result ≡ state.is_on self.now dom }
     {
         match self.domains.get(&dom) {
@@ -73,30 +70,6 @@ impl World {
             Some(domain.on)
         } else {
             None
-        }
-    }
-
-    // What a single partner lacks.
-    fn partner(&self, partner: DomId) -> Partner
-        ensures { result ≡ partner_in self.now partner }
-    {
-        let single = !partner.is_any();
-        Partner {
-            missing: single && !self.is_alive(partner),
-            off: single && !self.is_on(partner),
-        }
-    }
-
-    // The partner that an action names.
-    fn partner_for(&self, action: &Action) -> Partner
-        ensures { result ≡ partner_for self.now action.now }
-    {
-        match action {
-            Action::Register { partner, .. } => self.partner(*partner),
-            _ => Partner {
-                missing: false,
-                off: false,
-            },
         }
     }
 
@@ -128,29 +101,6 @@ impl World {
         }
     }
 
-    /// An act of a domain on itself. Where memory runs out the world stays.
-    pub(crate) fn own_act(
-        &mut self,
-        alloc: Global,
-        dom: DomId,
-        generation: u32,
-        action: Action,
-    ) -> Result<Outcome, NoMemory>
-        requires fit { IsTrue (is_fit action) }
-        requires own { IsTrue (is_own action) }
-        requires young { IsYoung (2 ^ 62) self.old }
-        ensures ok { IfOk result (λ o. act (Vcpu dom generation) action self.old ≡ record { outcome = o; state = self.new }) }
-        ensures err { OnErr result (self.new ≡ self.old) }
-    {
-        let partner = self.partner_for(&action);
-        let Some(domain) = self.domains.get_mut(&dom) else {
-            return Ok(Outcome::Gone);
-        };
-        let change = domain.act(alloc, generation, partner, action)?;
-        self.signal_all(change.signals.as_slice());
-        Ok(change.outcome)
-    }
-
     /// A caller sends from a port to a port of a domain. Where memory runs out the world stays.
     pub(crate) fn deliver(
         &mut self,
@@ -160,7 +110,9 @@ impl World {
         sent: Offer,
     ) -> Result<Outcome, NoMemory>
         requires { IsTrue (is_fit_load sent.load) }
-        ensures ok { IfOk result (λ o. act (Vcpu sent.sender generation) (Deliver sent.port to to_port sent.kind sent.load) self.old
+        ensures ok { IfOk result
+            (λ o. act (Vcpu sent.sender generation)
+            (Deliver sent.port to to_port sent.kind sent.load) self.old
             ≡ record { outcome = o; state = self.new }) }
         ensures err { OnErr result (self.new ≡ self.old) }
     {
@@ -191,7 +143,8 @@ impl World {
         need: u32,
     ) -> Result<Outcome, NoMemory>
         ensures ok { IfOk result
-            (λ o. act (Vcpu dom generation) (Query to to_port need) self.old ≡ record { outcome = o; state = self.new }) }
+            (λ o. act (Vcpu dom generation) (Query to to_port need) self.old
+            ≡ record { outcome = o; state = self.new }) }
         ensures err { OnErr result (self.new ≡ self.old) }
     {
         let Some(on) = self.caller(dom, generation) else {

@@ -30,7 +30,8 @@ pub fn run_scripts(alloc: Global, seed: u64, scripts: &Scripts) -> Result<Final,
 // Lists the sections, of the first so many, that have a line left.
 fn list_open(machine: &Machine, count: u32, vcpus: &mut Vec<u32>)
     requires { count ≤ vec_capacity vcpus.old }
-    ensures open { vcpus.new.items ≡ filter (is_open (run machine.now.script machine.now.schedule)) (range_with_len 0 count) }
+    ensures open { vcpus.new.items
+        ≡ filter (is_open (run machine.now.script machine.now.schedule)) (range_with_len 0 count) }
     ensures room { vec_capacity vcpus.new ≡ vec_capacity vcpus.old }
 {
     vcpus.clear();

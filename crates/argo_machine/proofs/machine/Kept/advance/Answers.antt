@@ -6,7 +6,8 @@ use Rattle.vcpu_machine.specs.Vcpu.{VcpuAt}
 use Rattle.argo_machine.specs.declared.machine.Kept.{Kept}
 use Rattle.argo_machine.specs.Kept.{IsOpenIn, Keeps, StaysKept}
 use Rattle.argo_machine.specs.Replies.{reply_steps}
-use Rattle.argo_machine.proofs.MachineLaws.{OpenAt, open_at, slice_get-read, some_inside, sections-set, left-same, left-less, kept_same, advanced, keeps_along, same_world, actor_at, few_steps, short_schedule, counted_length}
+use Rattle.argo_machine.proofs.MachineLaws.{kept_same, advanced, keeps_along, same_world, actor_at, few_steps, short_schedule, counted_length}
+use Rattle.argo_machine.proofs.StandLaws.{OpenAt, open_at, slice_get-read, some_inside, sections-set, left-same, left-less}
 use Rattle.argo_machine.proofs.BookLaws.{schedule_of-grown}
 use Rattle.argo_machine.proofs.machine.Kept.advance.Goals as goal
 

@@ -4,7 +4,8 @@ use Rattle.argo_model.specs.Runs.Final.{schedule_of}
 use Rattle.argo_model.specs.Runs.Run.{run}
 use Rattle.argo_machine.specs.Machine.{script_of}
 use Rattle.argo_machine.specs.Replies.{heard_among}
-use Rattle.argo_machine.proofs.MachineLaws.{all_stand-length, few_in_all}
+use Rattle.argo_machine.proofs.MachineLaws.{few_in_all}
+use Rattle.argo_machine.proofs.StandLaws.{all_stand-length}
 use Rattle.argo_machine.proofs.ReplyLaws.{heard_all-kept}
 use Rattle.argo_machine.proofs.machine.Machine.closed.Goals as goal
 

@@ -1,5 +1,5 @@
 use Rattle.std.proofs.Common.{refl}
-use Rattle.argo_machine.proofs.MachineLaws.{finished_iff, none_open}
+use Rattle.argo_machine.proofs.StandLaws.{finished_iff, none_open}
 use Rattle.argo_machine.proofs.machine.Machine.finished.Goals as goal
 
 pub returns-in-Some : goal.returns-in-Some

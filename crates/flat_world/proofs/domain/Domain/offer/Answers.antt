@@ -3,7 +3,7 @@ use Rattle.argo_base.specs.declared.errno.Errno.TheVariants.{ConnRefused}
 use Rattle.argo_model.specs.Rules.State.{Domain, Live}
 use Rattle.argo_model.specs.Rules.Deliver.{offer_to_live, offer_to_life, offer_to_domain}
 use Rattle.argo_model.specs.Rules.Effects.{refuse_if}
-use Rattle.flat_world.specs.Own.{with_left}
+use Rattle.flat_world.specs.Domain.{with_left}
 use Rattle.flat_world.proofs.WorldLaws.{life_after}
 use Rattle.flat_world.proofs.domain.Domain.offer.Goals as goal
 

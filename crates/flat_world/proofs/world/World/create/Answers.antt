@@ -5,7 +5,7 @@ use Rattle.argo_model.specs.declared.action.Outcome.TheVariants.{Done, Refused}
 use Rattle.argo_model.specs.Rules.State.{State, Domain, domain_of, set_domain, change_found}
 use Rattle.argo_model.specs.Rules.Effects.{refuse_if, leaving}
 use Rattle.argo_model.specs.Rules.Destroy.{create, change_all, next_domain}
-use Rattle.flat_world.proofs.LiveLaws.{in_any_case}
+use Rattle.flat_live.proofs.LiveLaws.{in_any_case}
 use Rattle.flat_world.proofs.WorldLaws.{set_domain-same, young_found, young_generation}
 use Rattle.flat_world.proofs.world.World.create.Goals as goal
 

@@ -5,9 +5,9 @@ use Rattle.argo_model.specs.declared.action.Outcome.TheVariants.{Refused}
 use Rattle.argo_model.specs.declared.action.Action.TheVariants.{Deliver}
 use Rattle.argo_model.specs.Rules.State.{Live, domain_of, set_domain, signal_all}
 use Rattle.argo_model.specs.Rules.Effects.{Change, change_in, refuse_if}
-use Rattle.flat_world.specs.Own.{with_left}
+use Rattle.flat_world.specs.Domain.{with_left}
 use Rattle.flat_world.specs.World.{accepted_signals, caller_on}
-use Rattle.flat_world.proofs.LiveLaws.{in_any_case}
+use Rattle.flat_live.proofs.LiveLaws.{in_any_case}
 use Rattle.flat_world.proofs.WorldLaws.{set_domain-same, changed, calls, offer_signals_accepted}
 use Rattle.argo_model.specs.Rules.Deliver.{Offer, offer_to_domain}
 use Rattle.flat_world.proofs.world.World.deliver.Goals as goal

@@ -1,28 +1,21 @@
-use Rattle.std.proofs.Common.{◌≡◌, ◌^◌, Some, sym, ap, ◌∙◌}
+use Rattle.std.proofs.Common.{◌≡◌, Some, sym, ap, ◌∙◌}
 use Rattle.std.specs.Option.{option_copied_mut}
 use Rattle.argo_model.specs.Rules.State.{Live, domain_of, set_domain, signal_all, life_in}
 use Rattle.argo_model.specs.Rules.Effects.{Change, change_in}
-use Rattle.flat_world.specs.Own.{own_if_live, with_left}
-use Rattle.flat_world.proofs.LiveLaws.{in_any_case}
-use Rattle.flat_world.proofs.WorldLaws.{set_domain-same, changed, own_acts, young_found, young_enough}
+use Rattle.flat_world.specs.Domain.{own_if_live, with_left}
+use Rattle.flat_live.proofs.LiveLaws.{in_any_case}
+use Rattle.flat_world.proofs.WorldLaws.{set_domain-same, changed, own_acts, own_quiet}
 use Rattle.flat_world.proofs.world.World.own_act.Goals as goal
 
-pub act-requires-clause-young : goal.act-requires-clause-young
-act-requires-clause-young c =
-    let s = c.args.self.now in
-    let x = c.in-Some.domain.now in
-    let there : domain_of s c.args.dom ≡ Some x = ap (λ s. domain_of s c.args.dom) (sym c.self.view_is) ∙ sym c.get_mut.ensures.value ∙ ap option_copied_mut c.in-Some.is in
-    young_enough x (young_found (2 ^ 62) s c.args.dom x there c.requires.young)
-
-pub returns-in_err-change-clause-err : goal.returns-in_err-change-clause-err
-returns-in_err-change-clause-err c =
+pub returns-in_err-outcome-clause-err : goal.returns-in_err-outcome-clause-err
+returns-in_err-outcome-clause-err c =
     let s = c.args.self.now in
     let d = c.args.dom in
     let x = c.in-Some.domain.now in
     let new = c.act.new.self in
     let there : domain_of s d ≡ Some x = ap (λ s. domain_of s d) (sym c.self.view_is) ∙ sym c.get_mut.ensures.value ∙ ap option_copied_mut c.in-Some.is in
     let left = (c.get_mut.follows.holds new).0 ∙ ap (λ s. set_domain s d new) c.self.view_is in
-    in_any_case c.from_residual.result (left ∙ ap (set_domain s d) c.in_err-change.ensures.err ∙ set_domain-same s d x there)
+    in_any_case c.from_residual.result (left ∙ ap (set_domain s d) c.in_err-outcome.ensures.err ∙ set_domain-same s d x there)
 
 pub returns-clause-ok : goal.returns-clause-ok
 returns-clause-ok c =
@@ -34,16 +27,10 @@ returns-clause-ok c =
     let new = c.act.new.self in
     let there : domain_of s d ≡ Some x = ap (λ s. domain_of s d) (sym c.self.view_is) ∙ sym c.get_mut.ensures.value ∙ ap option_copied_mut c.in-Some.is in
     let left = (c.get_mut.follows.holds new).0 ∙ ap (λ s. set_domain s d new) c.self.view_is in
-    let p = c.partner_for-partner.result in
-    let ch : Change Live = own_if_live p x.on (life_in g x) a in
-    let e = c.in_ok-change.ensures in
+    let ch : Change Live = own_if_live x.on (life_in g x) a in
+    let e = c.in_ok-outcome.ensures in
     own_acts s d g x a c.requires.own there
-    ∙ ap (λ p. change_in s d (own_if_live p x.on (life_in g x) a)) (sym c.partner_for-partner.ensures)
     ∙ changed s d x ch there
-    ∙ ap (λ o. record { outcome = o; state = signal_all (set_domain s d (with_left x ch.left)) ch.signals }) (sym e.outcome)
-    ∙ ap (λ t. record { outcome = c.in_ok-change.change.outcome; state = t })
-    (ap (λ y. signal_all (set_domain s d y) ch.signals) (sym e.left)
-    ∙ ap (signal_all (set_domain s d new)) (sym e.signals)
-    ∙ ap (λ t. signal_all t c.in_ok-change.change.signals.items) (sym left)
-    ∙ ap (signal_all (c.get_mut.follows.lender new).entries) (sym c.as_slice.ensures.value)
-    ∙ sym c.signal_all.ensures)
+    ∙ ap (λ ds. record { outcome = ch.outcome; state = signal_all (set_domain s d (with_left x ch.left)) ds }) (own_quiet x.on (life_in g x) a)
+    ∙ ap (λ o. record { outcome = o; state = set_domain s d (with_left x ch.left) }) (sym e.outcome)
+    ∙ ap (λ t. record { outcome = c.in_ok-outcome.outcome; state = t }) (ap (set_domain s d) (sym e.left) ∙ sym left)

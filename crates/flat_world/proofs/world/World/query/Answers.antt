@@ -4,8 +4,8 @@ use Rattle.argo_base.specs.declared.errno.Errno.TheVariants.{NoDev}
 use Rattle.argo_model.specs.declared.action.Action.TheVariants.{Query}
 use Rattle.argo_model.specs.Rules.State.{Live, domain_of, set_domain, signal_all}
 use Rattle.argo_model.specs.Rules.Effects.{Change, change_in, refuse_if}
-use Rattle.flat_world.specs.Own.{with_left}
-use Rattle.flat_world.proofs.LiveLaws.{in_any_case}
+use Rattle.flat_world.specs.Domain.{with_left}
+use Rattle.flat_live.proofs.LiveLaws.{in_any_case}
 use Rattle.flat_world.proofs.WorldLaws.{set_domain-same, changed, calls, query_quiet}
 use Rattle.argo_model.specs.Rules.Query.{query_domain}
 use Rattle.flat_world.proofs.world.World.query.Goals as goal

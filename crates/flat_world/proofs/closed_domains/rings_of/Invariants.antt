@@ -1,6 +1,0 @@
-use Rattle.std.proofs.Common.{◌≡◌, ◌++◌, map}
-use Rattle.argo_model.specs.Runs.Closed.{closed_ring}
-use Rattle.flat_world.proofs.closed_domains.rings_of.Given as goal
-
-abbrev pub invariant-loop-key : goal.invariant-loop-key
-invariant-loop-key l = l.closed ++ map closed_ring l.key-iterator ≡ map closed_ring l.rings.entries

@@ -1,7 +1,0 @@
-use Rattle.std.proofs.Common.{◌≡◌, drop}
-use Rattle.flat_world.specs.FreePages.{with_pages}
-use Rattle.flat_world.proofs.free_pages.take.Given as goal
-
--- the pages that are left make the same table
-abbrev pub invariant-loop-page : goal.invariant-loop-page
-invariant-loop-page l = with_pages l.table (drop l.page-index l.pages) ≡ with_pages l.initial.table l.pages
