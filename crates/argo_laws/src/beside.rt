@@ -10,7 +10,8 @@ ghost use Rattle.std.specs.Prelude.{◌≡◌, List, Some, ℕ};
 /// Every ring that stands in a run stands well: few rings a domain, few notices a ring and one a domain, each of a domain that may
 /// wait there, and every page in one ring and at one place of it.
 pub fn rings_stand_well()
-    ensures { (s : Script) (schedule : List ℕ) (name : RingName) (at : RingAt) → standing (run s schedule).state name ≡ Some at
+    ensures { (s : Script) (schedule : List ℕ) (name : RingName) (at : RingAt)
+        → standing (run s schedule).state name ≡ Some at
         → StandsWell (run s schedule).state at }
 {}
 
