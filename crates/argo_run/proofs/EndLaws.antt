@@ -12,10 +12,11 @@ use Rattle.script_text.specs.declared.kind.ScriptKind.TheVariants.{Size}
 use Rattle.script_text.specs.Scripts.{fault, scripts_of, script_of}
 use Rattle.script_text.specs.Lines.{lines_of, said_from}
 use Rattle.serial_run.specs.Picks.{IsRunByPicks}
+use Rattle.argo_laws.proofs.BesideLaws.{headline}
 use Rattle.argo_run.specs.declared.status.Status.{Status}
 use Rattle.argo_run.specs.declared.status.Status.TheVariants as s
 use Rattle.argo_run.specs.Due.{IsReport, fault_text}
-use Rattle.argo_run.specs.Ends.{IsRead, IsNoScript, IfScript, Agrees, AgreesWith, IsDoneWhereNothingFails}
+use Rattle.argo_run.specs.Ends.{IsRead, IsDone, IsNoScript, IfDone, IfScript, Agrees, AgreesWith, IsDoneWhereNothingFails}
 use Rattle.argo_run.specs.Serve.{WroteReport, RanScript, ServedFor}
 
 report_is : (seed : ℕ) (script : Script) (shown : Final) → IsRunByPicks script seed shown → IsReport seed script (report_of shown)
@@ -94,6 +95,34 @@ ended text (Some rest) read told (inr long) =
     let longer : 4194304 < length (text ++ rest) = omega (arith, n, long) in
     let P : List ℕ → Type 0 = λ ys. 4194304 < length ys in
     too_long read (subst P whole longer) ∙ sym (too_long text (omega (arith, long)))
+
+done_of : (seed : ℕ) (left left_new written written_new : Option (List ℕ)) (read : List ℕ) (rose : Type 0) (given : Result Script ScriptFault) → IsRead left left_new read
+    → scripts_of read ≡ given → ServedFor seed given written written_new rose s.Done → IsAtEnd left_new ⊎ (length read ≡ 4194305) → IsDone seed left left_new written written_new
+done_of seed left left_new written written_new read rose (Err f) is_read is h all = absurd h
+done_of seed left left_new written written_new read rose (Ok script) is_read is h (inr long) =
+    let e : Ok script ≡ fault 0 Size = sym is ∙ too_long read (omega (arith, long)) in cc
+done_of seed left left_new written written_new read rose (Ok script) is_read is h (inl at_end) =
+    record {
+      read = read;
+      told = is_read.told;
+      at_end = at_end;
+      script = script;
+      is_script = is;
+      text = h.0;
+      report = h.1;
+      headline = headline script h.1.schedule;
+      whole = h.2;
+    }
+
+-- status 0
+pub ends_done : (seed : ℕ) (left left_new written written_new : Option (List ℕ)) (read : List ℕ) (rose : Type 0) (status : Status) → IsRead left left_new read
+    → ServedFor seed (scripts_of read) written written_new rose status → IfDone status (IsDone seed left left_new written written_new)
+ends_done seed left left_new written written_new read rose s.Done is_read h = done_of seed left left_new written written_new read rose (scripts_of read) is_read refl h is_read.all
+ends_done seed left left_new written written_new read rose s.Usage is_read h = tt
+ends_done seed left left_new written written_new read rose s.SourceFault is_read h = tt
+ends_done seed left left_new written written_new read rose s.SinkFault is_read h = tt
+ends_done seed left left_new written written_new read rose (s.Script line kind) is_read h = tt
+ends_done seed left left_new written written_new read rose s.NoMemory is_read h = tt
 
 -- what was read answers for all that the source told
 pub same_answer : (left left_new : Option (List ℕ)) (text read : List ℕ) → IsRead left left_new text → left ≡ Some read → scripts_of read ≡ scripts_of text
