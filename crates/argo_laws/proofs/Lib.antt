@@ -8,6 +8,9 @@ pub mod CountStarts
 pub mod CountSteps
 pub mod Counts
 pub mod EndSteps
+pub mod Grown
+pub mod NameRuns
+pub mod NameSteps
 pub mod Names
 pub mod OtherSteps
 pub mod OwnSteps

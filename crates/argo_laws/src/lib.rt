@@ -10,7 +10,7 @@ mod holding;
 mod replies;
 mod steps;
 
-pub use beside::{equal_words_start_clean, rings_stand_well};
+pub use beside::{equal_words_start_clean, names_are_once, rings_stand_well};
 pub use headline::headline_holds;
 pub use holding::clean_rings_hold;
 pub use replies::replies_have_causes;
