@@ -15,4 +15,5 @@ pub mod Names
 pub mod OtherSteps
 pub mod OwnSteps
 pub mod Rings
+pub mod Rows
 pub mod Sizes
