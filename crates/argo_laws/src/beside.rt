@@ -10,14 +10,16 @@ ghost use Rattle.std.specs.Prelude.{◌≡◌, List, Some, ℕ};
 /// Every ring that stands in a run stands well: few rings a domain, few notices a ring and one a domain, each of a domain that may
 /// wait there, and every page in one ring and at one place of it.
 pub fn rings_stand_well()
-    ensures { (s : Script) (schedule : List ℕ) (name : RingName) (at : RingAt) → standing (run s schedule).state name ≡ Some at
+    ensures { (s : Script) (schedule : List ℕ) (name : RingName) (at : RingAt)
+        → standing (run s schedule).state name ≡ Some at
         → StandsWell (run s schedule).state at }
 {}
 
 /// No other ring ever has a ring's name: in every run, a name that stood after some steps and stands no more after more of them never
 /// stands again, however the run goes on; and as long as it stands it has one key.
 pub fn names_are_once()
-    ensures { (s : Script) (steps more rest : List ℕ) (name : RingName) → NameIsOnce s steps more rest name }
+    ensures { (s : Script) (steps more rest : List ℕ) (name : RingName)
+        → NameIsOnce s steps more rest name }
 {}
 
 /// A ring starts clean exactly where its two index words are equal after its start.

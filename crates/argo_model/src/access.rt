@@ -24,7 +24,8 @@ pub trait Access {
         requires fit { IsTrue (is_fit_at (actors self.old) v a) }
         requires few { IsTrue (has_steps_left (totals self.old) v) }
         ensures can { IfOk result (λ o. IsTrue (can_have a o)) }
-        ensures acts { IfOk result (λ o. ActsIn (actors self.old) v a (told self.old) o (told self.new)) }
+        ensures acts { IfOk result
+            (λ o. ActsIn (actors self.old) v a (told self.old) o (told self.new)) }
         ensures counts { IfOk result (λ o. totals self.new ≡ counted_at (totals self.old) v o) }
         ensures actors_stay { actors self.new ≡ actors self.old }
         ensures err_told { OnErr result (told self.new ≡ told self.old) }

@@ -20,9 +20,11 @@ pub fn run_gen<K: Sink>(alloc: Global, n: u64, out: &mut K) -> Status
     ensures usage { IfUsage result ⊥ }
     ensures source_fault { IfSourceFault result ⊥ }
     ensures sink_fault { IfSinkFault result (Rose (K.faults out.old) (K.faults out.new)) }
-    ensures sink_fault_cut { IfSinkFault result (IsSummaryCutShort n (K.written out.old) (K.written out.new)) }
+    ensures sink_fault_cut { IfSinkFault result
+        (IsSummaryCutShort n (K.written out.old) (K.written out.new)) }
     ensures script { IfScript result (λ f. ⊥) }
-    ensures no_memory { IfNoMemory result (IsSummaryLeftOff n (K.written out.old) (K.written out.new)) }
+    ensures no_memory { IfNoMemory result
+        (IsSummaryLeftOff n (K.written out.old) (K.written out.new)) }
     ensures complete { IsDoneWhereSinkStands (Rose (K.faults out.old) (K.faults out.new)) result }
 {
     let Ok(scripts) = gen_scripts(alloc, n) else {

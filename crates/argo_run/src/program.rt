@@ -24,27 +24,33 @@ pub fn run<S: Source, K: Sink>(
     ensures source { S.faults src.old ≤ S.faults src.new }
     ensures sink { K.faults out.old ≤ K.faults out.new }
     ensures done { IfDone result
-        (HasSeed words.now (λ seed. IsDone seed (S.left src.old) (S.left src.new) (K.written out.old) (K.written out.new))
+        (HasSeed words.now (λ seed. IsDone seed (S.left src.old) (S.left src.new)
+        (K.written out.old) (K.written out.new))
         ⊎ HasNumber words.now (λ n. IsSummed n (K.written out.old) (K.written out.new))) }
     ensures usage { IfUsage result (form_in words.now ≡ None) }
-    ensures usage_whole { IfUsage result (K.written out.new ≡ appended (K.written out.old) usage_text) }
+    ensures usage_whole { IfUsage result
+        (K.written out.new ≡ appended (K.written out.old) usage_text) }
     ensures wrong_words { form_in words.now ≡ None → IsUsageOrSinkFault result }
     ensures wrong_words_unread { form_in words.now ≡ None → src.new ≡ src.old }
     ensures gen_unread { HasNumber words.now (λ n. ⊤) → src.new ≡ src.old }
-    ensures source_fault { IfSourceFault result (HasSeed words.now (λ seed. Rose (S.faults src.old) (S.faults src.new))) }
+    ensures source_fault { IfSourceFault result
+        (HasSeed words.now (λ seed. Rose (S.faults src.old) (S.faults src.new))) }
     ensures source_fault_nothing { IfSourceFault result (K.written out.new ≡ K.written out.old) }
     ensures source_fault_count { IfSourceFault result (K.faults out.new ≡ K.faults out.old) }
     ensures sink_fault { IfSinkFault result (Rose (K.faults out.old) (K.faults out.new)) }
     ensures sink_fault_cut { IfSinkFault result
-        (IsTextCutShort (form_in words.now) (S.left src.old) (S.left src.new) (K.written out.old) (K.written out.new)) }
+        (IsTextCutShort (form_in words.now) (S.left src.old) (S.left src.new) (K.written out.old)
+        (K.written out.new)) }
     ensures script { IfScript result (λ f. HasSeed words.now (λ seed.
         IsNoScript f (S.left src.old) (S.left src.new) (K.written out.old) (K.written out.new))) }
     ensures no_memory { IfNoMemory result
-        (HasSeed words.now (λ seed. IsLeftOff seed (S.left src.old) (S.left src.new) (K.written out.old) (K.written out.new))
+        (HasSeed words.now (λ seed. IsLeftOff seed (S.left src.old) (S.left src.new)
+        (K.written out.old) (K.written out.new))
         ⊎ HasNumber words.now (λ n. IsSummaryLeftOff n (K.written out.old) (K.written out.new))) }
     ensures agrees { HasSeed words.now (λ seed. ⊤) → AgreesWith (S.left src.old) result }
     ensures complete { HasSeed words.now (λ seed. ⊤) → IsDoneWhereNothingFails (S.left src.old)
-        (Rose (S.faults src.old) (S.faults src.new)) (Rose (K.faults out.old) (K.faults out.new)) result }
+        (Rose (S.faults src.old) (S.faults src.new))
+        (Rose (K.faults out.old) (K.faults out.new)) result }
     ensures gen_complete { HasNumber words.now (λ n. ⊤)
         → IsDoneWhereSinkStands (Rose (K.faults out.old) (K.faults out.new)) result }
 {

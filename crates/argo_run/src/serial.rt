@@ -35,12 +35,17 @@ pub fn run_serial<S: Source, K: Sink>(alloc: Global, seed: u64, src: &mut S, out
     ensures source_fault_count { IfSourceFault result (K.faults out.new ≡ K.faults out.old) }
     ensures sink_fault { IfSinkFault result (Rose (K.faults out.old) (K.faults out.new)) }
     ensures sink_fault_cut { IfSinkFault result
-        (IsCutShort seed (S.left src.old) (S.left src.new) (K.written out.old) (K.written out.new)) }
+        (IsCutShort seed (S.left src.old) (S.left src.new) (K.written out.old)
+        (K.written out.new)) }
     ensures script { IfScript result
-        (λ f. IsNoScript f (S.left src.old) (S.left src.new) (K.written out.old) (K.written out.new)) }
-    ensures no_memory { IfNoMemory result (IsLeftOff seed (S.left src.old) (S.left src.new) (K.written out.old) (K.written out.new)) }
+        (λ f. IsNoScript f (S.left src.old) (S.left src.new) (K.written out.old)
+        (K.written out.new)) }
+    ensures no_memory { IfNoMemory result
+        (IsLeftOff seed (S.left src.old) (S.left src.new) (K.written out.old) (K.written out.new)) }
     ensures agrees { AgreesWith (S.left src.old) result }
-    ensures complete { IsDoneWhereNothingFails (S.left src.old) (Rose (S.faults src.old) (S.faults src.new)) (Rose (K.faults out.old) (K.faults out.new)) result }
+    ensures complete { IsDoneWhereNothingFails (S.left src.old)
+        (Rose (S.faults src.old) (S.faults src.new))
+        (Rose (K.faults out.old) (K.faults out.new)) result }
 {
     match read_text(alloc, src) {
         Ok(text) => serve(alloc, seed, text.as_slice(), out),
@@ -52,7 +57,8 @@ pub fn run_serial<S: Source, K: Sink>(alloc: Global, seed: u64, src: &mut S, out
 fn read_text<S: Source>(alloc: Global, src: &mut S) -> Result<Bytes, Status>
     ensures count { S.faults src.old ≤ S.faults src.new }
     ensures read { IfOk result (λ text. IsRead (S.left src.old) (S.left src.new) text) }
-    ensures fault { IfErr result (λ status. IsReadFault (Rose (S.faults src.old) (S.faults src.new)) status) }
+    ensures fault { IfErr result
+        (λ status. IsReadFault (Rose (S.faults src.old) (S.faults src.new)) status) }
 {
     match read_up_to(alloc, src, TOO_MANY_BYTES) {
         Ok(taken) => Ok(taken.bytes),

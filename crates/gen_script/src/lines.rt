@@ -63,7 +63,8 @@ pub(crate) fn push_round(
     d: u16,
     round: Round,
 ) -> Result<(), NoMemory>
-    ensures { OnOk result (lines.new ≡ lines.old ++ round_lines d round.to round.size round.number) }
+    ensures { OnOk result
+        (lines.new ≡ lines.old ++ round_lines d round.to round.size round.number) }
 {
     let src = address_in(d);
     let dst = address_in(round.to);

@@ -49,7 +49,8 @@ pub fn gen_scripts(alloc: Global, n: u64) -> Result<Scripts, NoMemory>
 fn section(alloc: Global, draws: &mut Draws, d: u16) -> Result<Part, NoMemory>
     requires { d < 256 }
     ensures part { IfOk result (λ p. p ≡ section d (lines_from draws.old.number d round_count)) }
-    ensures draws { OnOk result (draws.new.number ≡ number_after draws.old.number (2 * round_count)) }
+    ensures draws { OnOk result
+        (draws.new.number ≡ number_after draws.old.number (2 * round_count)) }
 {
     let mut lines = Lines::new(alloc);
     push_opening(alloc, &mut lines, d)?;

@@ -19,7 +19,8 @@ const ROW_BYTES: usize = 32;
 /// Writes a report, by one call of `write_whole` a line. It keeps the memory of the longest line and no more.
 pub fn write_report<K: Sink>(alloc: Global, out: &mut K, f: &Final) -> Result<(), WriteFault>
     ensures count { K.faults out.old ≤ K.faults out.new }
-    ensures whole { OnOk result (K.written out.new ≡ appended (K.written out.old) (report_of f.now)) }
+    ensures whole { OnOk result
+        (K.written out.new ≡ appended (K.written out.old) (report_of f.now)) }
     ensures cut_short { OnErr result
         (CutShort (K.written out.old) (K.written out.new) (report_of f.now)) }
     ensures failed { IsErrOf result WriteFault.Sink → Rose (K.faults out.old) (K.faults out.new) }
@@ -31,7 +32,8 @@ pub fn write_report<K: Sink>(alloc: Global, out: &mut K, f: &Final) -> Result<()
 /// Writes the summary of a report, in the same way.
 pub fn write_summary<K: Sink>(alloc: Global, out: &mut K, f: &Final) -> Result<(), WriteFault>
     ensures count { K.faults out.old ≤ K.faults out.new }
-    ensures whole { OnOk result (K.written out.new ≡ appended (K.written out.old) (summary_of f.now)) }
+    ensures whole { OnOk result
+        (K.written out.new ≡ appended (K.written out.old) (summary_of f.now)) }
     ensures cut_short { OnErr result
         (CutShort (K.written out.old) (K.written out.new) (summary_of f.now)) }
     ensures failed { IsErrOf result WriteFault.Sink → Rose (K.faults out.old) (K.faults out.new) }

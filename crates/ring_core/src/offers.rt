@@ -67,7 +67,8 @@ impl Ring {
 
     // Refuses a body that does not fit: ever, or now, and then the sender is noted.
     fn turn_away(&mut self, sender: DomId, size: u32) -> Accept
-        ensures outcome { IsSaid self.old (outcome_of result) (λ p. (turned_away p sender size).outcome) }
+        ensures outcome { IsSaid self.old (outcome_of result)
+            (λ p. (turned_away p sender size).outcome) }
         ensures refusal { refusal_of result ≡ None }
         ensures left { Becomes self.old self.new (λ p. after p (turned_away p sender size)) }
         ensures id { self.new.id ≡ self.old.id }

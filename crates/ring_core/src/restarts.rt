@@ -27,7 +27,8 @@ impl Ring {
         ensures ended { IfOk result
             (λ doms. doms ≡ doms_of (filter (never_fits len) self.old.notices)) }
         ensures left { OnOk result (Becomes self.old self.new
-            (restarted len numbers.now (lent_bytes (given_back private.old self.old) numbers.now))) }
+            (restarted len numbers.now
+            (lent_bytes (given_back private.old self.old) numbers.now))) }
         ensures lent { OnOk result
             (private.new ≡ without (given_back private.old self.old) numbers.now) }
         ensures could { OnOk result

@@ -24,9 +24,11 @@ impl Start {
         requires legal { IsTrue (is_legal len) }
         requires pages { length row.old ≡ page_count len }
         ensures tx { result.tx
-            ≡ start_place len (bytes.rx_word (row_bytes row.old)) (bytes.tx_word (row_bytes row.old)) }
+            ≡ start_place len (bytes.rx_word (row_bytes row.old))
+            (bytes.tx_word (row_bytes row.old)) }
         ensures clean { result.clean
-            ≡ starts_clean len (bytes.rx_word (row_bytes row.old)) (bytes.tx_word (row_bytes row.old)) }
+            ≡ starts_clean len (bytes.rx_word (row_bytes row.old))
+            (bytes.tx_word (row_bytes row.old)) }
         ensures numbers { numbers_of row.new ≡ numbers_of row.old }
         ensures bytes { row_bytes row.new ≡
             (if is_place len (bytes.tx_word (row_bytes row.old)) then row_bytes row.old

@@ -40,7 +40,8 @@ impl Ring {
     /// Answers a sender that asks for room for a body of `need` bytes: its notice is withdrawn where they fit, and set or raised
     /// where it is to wait. It takes no memory.
     pub fn query(&mut self, dom: DomId, need: u32) -> Answer
-        ensures answer { IsSaid self.old result (λ p. query.answer_of p (key_in self.old.id) dom need) }
+        ensures answer { IsSaid self.old result
+            (λ p. query.answer_of p (key_in self.old.id) dom need) }
         ensures left { Becomes self.old self.new
             (λ p. after p (query.query_ring p (key_in self.old.id) dom need)) }
         ensures keeps { Keeps self.old self.new }
@@ -58,7 +59,8 @@ impl Ring {
     /// Takes away the notice of a domain that is gone. It tells whether there was one.
     pub fn forget(&mut self, dom: DomId) -> bool
         ensures stood { result ≡ is_some (size_of self.old.notices dom) }
-        ensures left { Becomes self.old self.new (λ p. with_notices p (withdrawn p.ring.notices dom)) }
+        ensures left { Becomes self.old self.new
+            (λ p. with_notices p (withdrawn p.ring.notices dom)) }
         ensures keeps { Keeps self.old self.new }
     {
         self.notices.forget(dom)
@@ -83,7 +85,8 @@ impl Ring {
     // Asks for room for a body of `need` bytes: the flag that tells what came of it.
     fn request(&mut self, dom: DomId, need: u32) -> u16
         ensures flag { result ≡ (query.request (paged 0 self.old) dom need).flag }
-        ensures left { Becomes self.old self.new (λ p. with_notices p (query.request p dom need).notices) }
+        ensures left { Becomes self.old self.new
+            (λ p. with_notices p (query.request p dom need).notices) }
         ensures keeps { Keeps self.old self.new }
     {
         if slots::too_big(self.len, need) {

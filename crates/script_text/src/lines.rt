@@ -53,8 +53,10 @@ fn is_skipped(line: &[u8]) -> bool
 pub(crate) fn next_line(number: u32, text: &[u8]) -> Option<TextLine<'_>>
     requires { number + length text.now < 2 ^ 32 }
     ensures line { MatchOption result (said_from number (lines_of text.now) ≡ [])
-        (λ l. said_from number (lines_of text.now) ≡ (l.number, words_of l.text.now) ∷ said_from (l.number + 1) (lines_of l.rest.now)) }
-    ensures count { IfSome result (λ l. l.number + 1 + length l.rest.now ≤ number + length text.now) }
+        (λ l. said_from number (lines_of text.now)
+        ≡ (l.number, words_of l.text.now) ∷ said_from (l.number + 1) (lines_of l.rest.now)) }
+    ensures count { IfSome result
+        (λ l. l.number + 1 + length l.rest.now ≤ number + length text.now) }
     ensures shorter { IfSome result (λ l. length l.rest.now < length text.now) }
 {
     let mut number = number;

@@ -20,7 +20,9 @@ pub(crate) fn digit(byte: u8) -> u8
 
 // The value with one digit more, below 2^64.
 fn next_value(value: u64, base: u8, byte: u8) -> Option<u64>
-    ensures { result ≡ (if is_digit byte base && nat_lt (value * base + digit_value byte) (2 ^ 64) then Some (value * base + digit_value byte) else None) }
+    ensures { result ≡ (
+        if is_digit byte base && nat_lt (value * base + digit_value byte) (2 ^ 64)
+        then Some (value * base + digit_value byte) else None) }
 {
     let digit = digit(byte);
     if digit >= base {

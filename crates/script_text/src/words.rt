@@ -25,7 +25,8 @@ fn first_in_word(text: &[u8]) -> Option<usize>
 
 /// The first word of a line, and what stands behind it.
 pub(crate) fn next_word(line: &[u8]) -> Option<(&[u8], &[u8])>
-    ensures { MatchOption result (words_of line.now ≡ []) (λ x. words_of line.now ≡ x.0.now ∷ words_of x.1.now) }
+    ensures { MatchOption result (words_of line.now ≡ [])
+        (λ x. words_of line.now ≡ x.0.now ∷ words_of x.1.now) }
 {
     let start = first_in_word(line)?;
     let (_, text) = line.split_at(start);
@@ -35,14 +36,16 @@ pub(crate) fn next_word(line: &[u8]) -> Option<(&[u8], &[u8])>
 
 // A word that the line must have.
 fn word(line: &[u8]) -> Result<(&[u8], &[u8]), ScriptKind>
-    ensures { MatchResult result (λ x. words_of line.now ≡ x.0.now ∷ words_of x.1.now) (λ k. (k ≡ ScriptKind.Count) × (words_of line.now ≡ [])) }
+    ensures { MatchResult result (λ x. words_of line.now ≡ x.0.now ∷ words_of x.1.now)
+        (λ k. (k ≡ ScriptKind.Count) × (words_of line.now ≡ [])) }
 {
     next_word(line).ok_or(ScriptKind::Count)
 }
 
 // The end of the words.
 fn no_more(line: &[u8]) -> Result<(), ScriptKind>
-    ensures { MatchResult result (λ _. words_of line.now ≡ []) (λ k. (k ≡ ScriptKind.Count) × HasWord (words_of line.now)) }
+    ensures { MatchResult result (λ _. words_of line.now ≡ [])
+        (λ k. (k ≡ ScriptKind.Count) × HasWord (words_of line.now)) }
 {
     match next_word(line) {
         None => Ok(()),
@@ -78,7 +81,8 @@ pub(crate) fn two_words(line: &[u8]) -> Result<(&[u8], &[u8]), ScriptKind>
 
 /// The five words of a line.
 pub(crate) fn five_words(line: &[u8]) -> Result<(&[u8], &[u8], &[u8], &[u8], &[u8]), ScriptKind>
-    ensures { Reads (λ w. (w.0.now, w.1.now, w.2.now, w.3.now, w.4.now)) result (five_words (words_of line.now)) }
+    ensures { Reads (λ w. (w.0.now, w.1.now, w.2.now, w.3.now, w.4.now)) result
+        (five_words (words_of line.now)) }
 {
     let (first, rest) = word(line)?;
     let (second, rest) = word(rest)?;
@@ -91,7 +95,8 @@ pub(crate) fn five_words(line: &[u8]) -> Result<(&[u8], &[u8], &[u8], &[u8], &[u
 
 /// The three words of a line, and a fourth where it has one.
 pub(crate) fn domain_words(line: &[u8]) -> Result<(&[u8], &[u8], &[u8], Option<&[u8]>), ScriptKind>
-    ensures { Reads (λ w. (w.0.now, w.1.now, w.2.now, option_map (λ o. o.now) w.3)) result (domain_words (words_of line.now)) }
+    ensures { Reads (λ w. (w.0.now, w.1.now, w.2.now, option_map (λ o. o.now) w.3)) result
+        (domain_words (words_of line.now)) }
 {
     let (first, rest) = word(line)?;
     let (second, rest) = word(rest)?;
@@ -105,7 +110,8 @@ pub(crate) fn domain_words(line: &[u8]) -> Result<(&[u8], &[u8], &[u8], Option<&
 
 /// The one word of a line, and two more where it has three.
 pub(crate) fn vcpu_words(line: &[u8]) -> Result<(&[u8], Option<(&[u8], &[u8])>), ScriptKind>
-    ensures { Reads (λ w. (w.0.now, option_map (λ o. (o.0.now, o.1.now)) w.1)) result (vcpu_words (words_of line.now)) }
+    ensures { Reads (λ w. (w.0.now, option_map (λ o. (o.0.now, o.1.now)) w.1)) result
+        (vcpu_words (words_of line.now)) }
 {
     let (first, rest) = word(line)?;
     let Some((second, rest)) = next_word(rest) else {

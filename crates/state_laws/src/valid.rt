@@ -17,7 +17,8 @@ pub fn starts_are_valid()
 
 /// Each action that its section may perform leaves a valid state valid.
 pub fn acts_keep()
-    ensures { (actor : Actor) (a : Action) (s : State) → IsTrue (is_fit_for actor a) → IsValid s → IsValid (act actor a s).state }
+    ensures { (actor : Actor) (a : Action) (s : State) → IsTrue (is_fit_for actor a) → IsValid s
+        → IsValid (act actor a s).state }
 {}
 
 /// Every run of every script comes to valid states alone, after each of its steps: a schedule is any list of section numbers.
