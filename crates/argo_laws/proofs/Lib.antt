@@ -8,8 +8,12 @@ pub mod CountStarts
 pub mod CountSteps
 pub mod Counts
 pub mod EndSteps
+pub mod Grown
+pub mod NameRuns
+pub mod NameSteps
 pub mod Names
 pub mod OtherSteps
 pub mod OwnSteps
 pub mod Rings
+pub mod Rows
 pub mod Sizes

@@ -259,7 +259,7 @@ module _ (d g v k : ℕ) (r : Option Reply) (s : State) (valid : IsValid s) (x :
         lives y found on (Some old) is = matches y old (record { here = found; life = is }) on (match_of old.rings port d) refl
 
         there : (y : Option Domain) → domain_of s to ≡ y → Lawful (to_state (Query to port need) to (query_domain d port need y))
-        there None here = lawful_same (to_state (Query to port need) to (answered (Answered no_answer))) refl
+        there None found = lawful_same (to_state (Query to port need) to (answered (Answered no_answer))) refl
         there (Some y) found = by y.on refl where
           by : (b : Bool) → y.on ≡ b → Lawful (to_state (Query to port need) to (if b then query_life d port need y.life else answered (Answered no_answer)))
           by true on = lives y found on y.life refl

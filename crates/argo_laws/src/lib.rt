@@ -5,12 +5,14 @@
 #![tactic(auto)]
 
 mod beside;
+mod examples;
 mod headline;
 mod holding;
 mod replies;
 mod steps;
 
-pub use beside::{equal_words_start_clean, rings_stand_well};
+pub use beside::{equal_words_start_clean, names_are_once, rings_stand_well};
+pub use examples::{flags_are_cleared, flags_are_set, names_go_on, notices_end, notices_stay};
 pub use headline::headline_holds;
 pub use holding::clean_rings_hold;
 pub use replies::replies_have_causes;

@@ -1,0 +1,5 @@
+use Rattle.argo_laws.proofs.Rows as rows
+use Rattle.argo_laws.proofs.examples.flags_are_cleared.Goals as goal
+
+pub returns : goal.returns
+returns c = rows.flags_are_cleared
