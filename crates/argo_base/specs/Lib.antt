@@ -6,8 +6,10 @@ pub mod Match
 pub mod MessageList
 pub mod Messages
 pub mod Notices
+pub mod Numbers
 pub mod Pieces
 pub mod RingIds
 pub mod Rounds
+pub mod SlotBytes
 pub mod Slots
 pub mod Splice

@@ -1,4 +1,4 @@
--- Lists of page numbers.
+-- Lists of numbers, as of pages.
 use Rattle.std.specs.Prelude.{ℕ, Bool, true, ◌&&◌, not, ◌==◌, List, [], ◌∷◌}
 use Rattle.std.specs.List.{list_any}
 
