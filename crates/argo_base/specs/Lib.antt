@@ -1,4 +1,5 @@
 pub mod Errno
+pub mod Generator
 pub mod Iovs
 pub mod Layout
 pub mod Limits

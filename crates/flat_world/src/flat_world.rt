@@ -1,10 +1,11 @@
 //! The world: its domains, who its sections are, and what each of them has done.
 
 ghost use Rattle.std.specs.Prelude.{◌≡◌, ◌-◌, ◌<◌, ◌^◌, IfOk, Some, length, map, slice_get, option_map};
+ghost use Rattle.argo_model.specs.Rules.Access.{steps_of};
 ghost use Rattle.argo_model.specs.Rules.State.{start_state};
 ghost use Rattle.argo_model.specs.Runs.Closed.{closed_domains};
 ghost use Rattle.argo_model.specs.Runs.Final.{final_domain, no_steps, totals_after};
-ghost use Rattle.flat_world.specs.Flat.{IsSmall, steps_of};
+ghost use Rattle.flat_world.specs.Flat.{IsSmall};
 
 use crate::finals::finals_of;
 use crate::world::World;
