@@ -1,5 +1,5 @@
 use Rattle.flat_world.proofs.FlatLaws.{shown}
-use Rattle.flat_world.proofs.flat_world.FlatWorld.closed.Goals as goal
+use Rattle.flat_world.proofs.flat_world.FlatWorldSerialWorld.closed.Goals as goal
 
 pub closed-requires : goal.closed-requires
 closed-requires c =

@@ -1,6 +1,6 @@
 use Rattle.std.proofs.Common.{ap, ◌∙◌}
 use Rattle.flat_world.proofs.FlatLaws.{starts_as, actors_in, none_done}
-use Rattle.flat_world.proofs.flat_world.FlatWorld.new.Goals as goal
+use Rattle.flat_world.proofs.flat_world.FlatWorldSerialWorld.start.Goals as goal
 
 pub invariant_of-result : goal.invariant_of-result
 invariant_of-result c =

@@ -1,5 +1,5 @@
 use Rattle.flat_world.proofs.FlatLaws.{shown}
-use Rattle.flat_world.proofs.flat_world.FlatWorld.into_finals.Goals as goal
+use Rattle.flat_world.proofs.flat_world.FlatWorldSerialWorld.into_finals.Goals as goal
 
 pub finals_of-requires : goal.finals_of-requires
 finals_of-requires c =
