@@ -18,8 +18,8 @@ use std::alloc::Global;
 use std::marker::Model;
 use vcpu_machine::Vcpu;
 
-/// The plain machine over a script: it runs it, step by step, under any schedule. Contracts see what it runs, the schedule
-/// so far, and how many steps are to come at most.
+/// The machine over a script and a serial world: it runs the script, step by step, under any schedule. Contracts see what it runs,
+/// the schedule so far, and how many steps are to come at most.
 #[derive(Drop)]
 pub struct Machine<W: SerialWorld> {
     version: u32,
