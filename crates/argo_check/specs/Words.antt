@@ -3,6 +3,7 @@ use Rattle.std.specs.Prelude.{ℕ, ◌+◌, ◌-◌, ◌*◌, ◌^◌, Bool, ◌
 use Rattle.std.specs.List.{list_all}
 use Rattle.std.specs.Option.{option_and_then, option_map}
 use Rattle.std.specs.Str.{bytes_eq}
+use Rattle.argo_check.specs.declared.words.Place.{Place}
 use Rattle.argo_check.specs.declared.words.Form.{Form}
 use Rattle.argo_check.specs.declared.words.Form.TheVariants.{Plain, Why}
 
@@ -21,12 +22,16 @@ is_number w = nat_le 1 (length w) && nat_le (length w) 20 && list_all is_digit w
 abbrev pub number_of : List ℕ → Option ℕ
 number_of w = if is_number w then Some (decimal_value w) else None
 
--- the form of the word `why` with these two words
-abbrev pub why_with : List ℕ → List ℕ → Option Form
-why_with vcpu line = option_and_then (λ v. option_map (λ k. Why (record { vcpu = v; line = k })) (number_of line)) (number_of vcpu)
+-- the line that two words name
+abbrev pub place_of : List ℕ → List ℕ → Option Place
+place_of vcpu line = option_and_then (λ v. option_map (λ k. record { vcpu = v; line = k }) (number_of line)) (number_of vcpu)
+
+-- the form of three words
+abbrev pub form_with : List ℕ → List ℕ → List ℕ → Option Form
+form_with name vcpu line = if bytes_eq name (codes "why") then option_map Why (place_of vcpu line) else None
 
 -- the form of no words, and of the words `why V K`; other words have none
 abbrev pub form_of : List (List ℕ) → Option Form
 form_of [] = Some Plain
-form_of (name ∷ vcpu ∷ line ∷ []) = if bytes_eq name (codes "why") then why_with vcpu line else None
+form_of (name ∷ vcpu ∷ line ∷ []) = form_with name vcpu line
 form_of _ = None

@@ -1,9 +1,9 @@
 //! A sink that compares what is written with a report, so that the text of the right report never stands in memory.
 
-ghost use Rattle.std.specs.Prelude.{◌≡◌, ◌≢◌, ◌≤◌, ◌<◌, ◌++◌, Some, None, length, take, slice_get, MatchOption};
+ghost use Rattle.std.specs.Prelude.{◌≡◌, ◌≢◌, ℕ, ◌≤◌, Some, None, length, take, slice_get, count_by, MatchOption};
 ghost use Rattle.std.specs.Option.{ForSome, ForNone};
-ghost use Rattle.argo_check.specs.Comparing.{taken_of};
-ghost use Rattle.argo_check.specs.Differences.{DifferFirstIn};
+ghost use Rattle.argo_check.specs.Comparing.{taken_of, IsWhole, IsOffIn};
+ghost use Rattle.argo_check.specs.Differences.{is_line_feed};
 
 use argo_outside::{Failed, Sink};
 
@@ -37,8 +37,12 @@ impl<'a> Comparer<'a> {
         }
     }
 
-    /// The first line at which the report differs from what was written, where that is all.
-    pub(crate) fn difference(&self) -> Option<u64> {
+    /// The line, from 1, of the first byte at which the report differs from what was written, where that is all. None where it is
+    /// the same.
+    pub(crate) fn difference(&self) -> Option<u64>
+        ensures { MatchOption result (IsWhole self.now.report.now self.now.same self.now.other)
+            (λ line. IsOffIn line self.now.report.now self.now.same self.now.other) }
+    {
         if self.other.is_none() && self.same == self.report.len() {
             return None;
         }
@@ -60,18 +64,22 @@ impl Sink for Comparer<'_> {
         let (_, rest) = self.report.split_at(self.same);
         let count = same_bytes(rest, piece);
         self.same += count;
-        match piece.get(count) {
-            Some(byte) => {
-                self.other = Some(*byte);
-                Ok(count + 1)
-            }
-            None => Ok(count),
+        if count == piece.len() {
+            return Ok(count);
         }
+        let byte = piece[count];
+        self.other = Some(byte);
+        Ok(count + 1)
     }
 }
 
 // How many bytes at the start of two texts are the same.
-fn same_bytes(one: &[u8], other: &[u8]) -> usize {
+fn same_bytes(one: &[u8], other: &[u8]) -> usize
+    ensures within { (result ≤ length one.now) × (result ≤ length other.now) }
+    ensures same { take result one.now ≡ take result other.now }
+    ensures stops { (byte : ℕ) → slice_get other.now result ≡ Some byte
+        → slice_get one.now result ≢ Some byte }
+{
     let most = one.len().min(other.len());
     for at in 0..most {
         if one[at] != other[at] {
@@ -81,12 +89,9 @@ fn same_bytes(one: &[u8], other: &[u8]) -> usize {
     most
 }
 
-fn line_feeds(text: &[u8]) -> u64 {
-    let mut count = 0;
-    for byte in text {
-        if *byte == b'\n' {
-            count += 1;
-        }
-    }
-    count
+fn line_feeds(text: &[u8]) -> u64
+    ensures count { result ≡ count_by is_line_feed text.now }
+    ensures few { result ≤ length text.now }
+{
+    text.iter().filter(|byte| **byte == b'\n').count() as u64
 }

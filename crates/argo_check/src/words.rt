@@ -2,7 +2,7 @@
 
 ghost use Rattle.std.specs.Prelude.{◌≡◌, ◌+◌, ◌≤◌, ◌^◌, Some, None, map};
 ghost use Rattle.std.specs.String.{string_bytes};
-ghost use Rattle.argo_check.specs.Words.{is_digit, decimal_value, number_of, why_with, form_of};
+ghost use Rattle.argo_check.specs.Words.{is_digit, decimal_value, number_of, place_of, form_with, form_of};
 
 /// What the words ask for.
 #[derive(Clone, Copy, Debug, PartialEq, Eq)]
@@ -26,21 +26,27 @@ pub(crate) fn form_of(words: &Vec<String>) -> Option<Form>
 {
     match words.as_slice() {
         [] => Some(Form::Plain),
-        [name, vcpu, line] => match name.as_str() {
-            "why" => why_with(vcpu.as_bytes(), line.as_bytes()),
-            _ => None,
-        },
+        [name, vcpu, line] => form_with(name.as_str(), vcpu.as_bytes(), line.as_bytes()),
         _ => None,
     }
 }
 
-fn why_with(vcpu: &[u8], line: &[u8]) -> Option<Form>
-    ensures { result ≡ why_with vcpu.now line.now }
+fn form_with(name: &str, vcpu: &[u8], line: &[u8]) -> Option<Form>
+    ensures { result ≡ form_with name.now vcpu.now line.now }
 {
-    Some(Form::Why(Place {
+    match name {
+        "why" => Some(Form::Why(place_of(vcpu, line)?)),
+        _ => None,
+    }
+}
+
+fn place_of(vcpu: &[u8], line: &[u8]) -> Option<Place>
+    ensures { result ≡ place_of vcpu.now line.now }
+{
+    Some(Place {
         vcpu: number_of(vcpu)?,
         line: number_of(line)?,
-    }))
+    })
 }
 
 // The number that a word spells, of 1 to 20 decimal digits.
