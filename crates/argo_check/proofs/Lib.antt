@@ -1,3 +1,5 @@
-pub mod CutLaws
 pub mod CompareLaws
+pub mod CutLaws
+pub mod EndLaws
+pub mod SaidLaws
 pub mod WordLaws

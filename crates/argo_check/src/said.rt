@@ -103,7 +103,9 @@ fn fault_text(alloc: Global, fault: ScriptFault) -> Result<String, AllocError>
 {
     let kind = fault.kind.text();
     let line = fault.line;
-    format!(in alloc; "script line {line}: {kind}\n")
+    let mut text = String::new(alloc);
+    writeln!(text, "script line {line}: {kind}")?;
+    Ok(text)
 }
 
 // The line that says which line is wrong.
