@@ -1,11 +1,12 @@
 -- Laws of texts that are compared byte by byte.
-use Rattle.std.proofs.Common.{false, ◌≡◌, ◌≢◌, ℕ, zero, suc, ◌+◌, ◌<◌, ◌≤◌, List, [], ◌∷◌, ◌++◌, length, take, drop, slice_get, get_or, Option, Some, None, refl, sym, ap, ◌∙◌, subst, arith, append_assoc}
-use Rattle.std.specs.Option.{is_some}
+use Rattle.std.proofs.Common.{false, ◌≡◌, ◌≢◌, ℕ, zero, suc, ◌+◌, ◌<◌, ◌≤◌, List, [], ◌∷◌, ◌++◌, length, take, drop, slice_get, get_or, Option, Some, None, refl, sym, ap, ◌∙◌, subst, arith, append_assoc, count_by}
+use Rattle.std.specs.Option.{is_some, ForSome, ForNone}
 use Rattle.std.proofs.lemmas.Bool.{false≢true}
-use Rattle.std.proofs.lemmas.Option.{slice_get-get_or}
+use Rattle.std.proofs.lemmas.Option.{slice_get-get_or, slice_get_past}
 use Rattle.argo_check.specs.Comparing.{taken_of}
+use Rattle.argo_check.specs.Differences.{is_line_feed, DifferFirstIn}
 use Rattle.std.proofs.Math.Seq.{take-add}
-use Rattle.std.proofs.lemmas.List.{take_more}
+use Rattle.std.proofs.lemmas.List.{take_more, take_all, take_at, length-take-le, append-nil, take-append-drop}
 
 -- the bytes behind a part are those behind its end
 pub get-behind : {A : Type 0} (xs : List A) (i k : ℕ) → slice_get (drop i xs) k ≡ slice_get xs (i + k)
@@ -45,3 +46,61 @@ pub other_differs : (report piece rest : List ℕ) (same count d : ℕ) → rest
     → ((byte : ℕ) → slice_get piece count ≡ Some byte → slice_get rest count ≢ Some byte) → slice_get report (same + count) ≢ Some (get_or piece count d)
 other_differs report piece rest same count d is inside stops here =
     stops (get_or piece count d) (slice_get-get_or piece count d inside) (ap (λ xs. slice_get xs count) is ∙ get-behind report same count ∙ here)
+
+get-at : {A : Type 0} (xs : List A) (b : A) (rest : List A) (k : ℕ) → length xs ≡ k → slice_get (xs ++ b ∷ rest) k ≡ Some b
+get-at [] b rest zero here = refl
+get-at [] b rest (suc k) here = absurd (omega (arith, here))
+get-at (x ∷ xs) b rest zero here = absurd (omega (arith, here))
+get-at (x ∷ xs) b rest (suc k) here = get-at xs b rest k (omega (arith, here))
+
+module _ (report due : List ℕ) (same line : ℕ) (within : same ≤ length report) (line_is : line ≡ count_by is_line_feed (take same report) + 1) where
+  -- the right report goes on with another byte
+  other_byte : (b : ℕ) (rest : List ℕ) → slice_get report same ≢ Some b → due ≡ (take same report ++ b ∷ []) ++ rest → DifferFirstIn report due line
+  other_byte b rest differs is =
+      let n = length-take-le same report within in
+      let e : due ≡ take same report ++ b ∷ rest = is ∙ append_assoc (take same report) (b ∷ []) rest in
+      record {
+        place = same;
+        same = sym (ap (take same) e ∙ take_at (take same report) (b ∷ rest) same n);
+        differ = λ alike. differs (alike ∙ ap (λ xs. slice_get xs same) e ∙ get-at (take same report) b rest same n);
+        line_is = line_is;
+      }
+
+  -- the right report ends before the report
+  ends_early : same < length report → due ≡ take same report → DifferFirstIn report due line
+  ends_early more is =
+      let n = length-take-le same report within in
+      let m = ap length is in
+      record {
+        place = same;
+        same = sym (ap (take same) is ∙ take_all same (take same report) (omega (arith, n)));
+        differ = λ alike.
+            let here = slice_get-get_or report same 0 more in
+            let past = slice_get_past due same (omega (arith, n, m)) in
+            let none : Some (get_or report same 0) ≡ None = sym here ∙ alike ∙ past in
+            cc;
+        line_is = line_is;
+      }
+
+  -- all of it was taken
+  pub off_whole : (other : Option ℕ) → (other ≡ None → same < length report) → ForSome other (λ b. slice_get report same ≢ Some b) → taken_of report same other ≡ due
+      → DifferFirstIn report due line
+  off_whole None part differs all = ends_early (part refl) (sym all)
+  off_whole (Some b) part differs all = other_byte b [] (differs b refl) (sym all ∙ sym (append-nil (take same report ++ b ∷ [])))
+
+  -- a part of it was taken, and then a fault was counted
+  pub off_cut : (other : Option ℕ) (faults count : ℕ) → ForSome other (λ b. slice_get report same ≢ Some b) → ForNone other (faults ≡ 0) → 1 ≤ faults
+      → taken_of report same other ≡ take count due → DifferFirstIn report due line
+  off_cut None faults count differs stuck rose part = let none = stuck refl in absurd (omega (arith, none, rose))
+  off_cut (Some b) faults count differs stuck rose part =
+      other_byte b (drop count due) (differs b refl) (sym (take-append-drop count due) ∙ ap (λ xs. xs ++ drop count due) (sym part))
+
+-- the report was taken whole, and the right report is that
+pub whole_same : (report due : List ℕ) (same : ℕ) (other : Option ℕ) → (other ≡ None) × (same ≡ length report) → taken_of report same other ≡ due → report ≡ due
+whole_same report due same None whole all = sym (take_all same report (omega (arith, whole.1))) ∙ all
+whole_same report due same (Some b) whole all = let none = whole.0 in cc
+
+-- a comparer that counted a fault has taken another byte
+pub not_whole : (same n : ℕ) (other : Option ℕ) (faults : ℕ) → ForNone other (faults ≡ 0) → 1 ≤ faults → (other ≡ None) × (same ≡ n) → ⊥
+not_whole same n None faults stuck rose whole = let none = stuck refl in omega (arith, none, rose)
+not_whole same n (Some b) faults stuck rose whole = let none = whole.0 in cc
