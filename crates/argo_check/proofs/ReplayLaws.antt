@@ -79,8 +79,9 @@ run_numbers r = replicate r.count r.vcpu
 pub schedule_at : (runs : List Run) (i : ℕ) (r : Run) → i < length runs → r ≡ get_or runs i r
     → schedule_of runs ≡ schedule_of (take i runs) ++ (replicate r.count r.vcpu ++ schedule_of (drop (i + 1) runs))
 schedule_at runs i r below here =
+    let e : suc i ≡ i + 1 = omega arith in
     let parts : runs ≡ take i runs ++ r ∷ drop (i + 1) runs =
-    sym (take-append-drop i runs) ∙ ap (λ xs. take i runs ++ xs) (drop-cons runs i r below) ∙ ap (λ x. take i runs ++ x ∷ drop (i + 1) runs) (sym here) in
+    sym (take-append-drop i runs) ∙ ap (λ xs. take i runs ++ xs) (drop-cons runs i r below ∙ ap (λ n. get_or runs i r ∷ drop n runs) e) ∙ ap (λ x. take i runs ++ x ∷ drop (i + 1) runs) (sym here) in
     ap schedule_of parts ∙ flat_map-append (λ x. replicate x.count x.vcpu) (take i runs) (r ∷ drop (i + 1) runs)
 
 pub schedule-more : (runs : List Run) (i : ℕ) (r : Run) → i < length runs → r ≡ get_or runs i r → schedule_of (take (i + 1) runs) ≡ schedule_of (take i runs) ++ replicate r.count r.vcpu

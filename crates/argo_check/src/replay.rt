@@ -26,7 +26,7 @@ pub(crate) fn replay(
             return Ok(None);
         }
     }
-    if all_finished(&machine, scripts.parts.len()) {
+    if all_finished(&machine, scripts.parts.len() as u32) {
         Ok(Some(machine))
     } else {
         Ok(None)
@@ -48,12 +48,12 @@ fn replay_run(machine: &mut Machine, run: Run) -> Result<bool, NoMemory>
 }
 
 // Whether every section is finished.
-fn all_finished(machine: &Machine, count: usize) -> bool
+fn all_finished(machine: &Machine, count: u32) -> bool
     requires { count ≡ length machine.now.script.sections }
     ensures { MatchBool result (AllFinished machine.now) (¬ AllFinished machine.now) }
 {
     for v in 0..count {
-        if !machine.finished(v as u32) {
+        if !machine.finished(v) {
             return false;
         }
     }
