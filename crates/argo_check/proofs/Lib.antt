@@ -4,4 +4,3 @@ pub mod EndLaws
 pub mod ReplayLaws
 pub mod SaidLaws
 pub mod VerdictLaws
-pub mod WordLaws

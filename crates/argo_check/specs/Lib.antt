@@ -9,5 +9,4 @@ pub mod Moves
 pub mod Numbers
 pub mod Said
 pub mod Verdicts
-pub mod Why
 pub mod Words

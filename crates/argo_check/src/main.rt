@@ -17,7 +17,6 @@ mod status;
 #[cfg(test)]
 mod tests;
 mod verdict;
-mod why;
 mod words;
 
 use argo_outside::{StdSink, StdSource};
