@@ -1,12 +1,13 @@
 -- Laws of texts that are compared byte by byte.
-use Rattle.std.proofs.Common.{false, ◌≡◌, ◌≢◌, ℕ, zero, suc, ◌+◌, ◌<◌, ◌≤◌, List, [], ◌∷◌, ◌++◌, length, take, drop, slice_get, get_or, Option, Some, None, refl, sym, ap, ◌∙◌, subst, arith, append_assoc, count_by}
+use Rattle.std.proofs.Common.{false, ◌≡◌, ◌≢◌, ℕ, zero, suc, ◌+◌, ◌<◌, ◌≤◌, List, [], ◌∷◌, ◌++◌, length, take, drop, slice_get, get_or, Option, Some, None, refl, sym, ap, ◌∙◌, subst, arith, append_assoc, count_by, unwrap_or}
 use Rattle.std.specs.Option.{is_some, ForSome, ForNone}
 use Rattle.std.proofs.lemmas.Bool.{false≢true}
 use Rattle.std.proofs.lemmas.Option.{slice_get-get_or, slice_get_past}
-use Rattle.argo_check.specs.Comparing.{taken_of}
+use Rattle.argo_outside.specs.Sink.{appended, CutShort}
+use Rattle.argo_check.specs.Comparing.{taken_of, told_of}
 use Rattle.argo_check.specs.Differences.{is_line_feed, DifferFirstIn}
 use Rattle.std.proofs.Math.Seq.{take-add}
-use Rattle.std.proofs.lemmas.List.{take_more, take_all, take_at, length-take-le, append-nil, take-append-drop}
+use Rattle.std.proofs.lemmas.List.{take_more, take_all, take_at, drop_at, length-take-le, append-nil, take-append-drop}
 
 -- the bytes behind a part are those behind its end
 pub get-behind : {A : Type 0} (xs : List A) (i k : ℕ) → slice_get (drop i xs) k ≡ slice_get xs (i + k)
@@ -29,16 +30,24 @@ took_other report piece same count d e inside =
     ap (λ xs. xs ++ get_or piece count d ∷ []) (took_more report piece same count e) ∙ append_assoc (take same report) (take count piece) (get_or piece count d ∷ [])
     ∙ ap (λ xs. take same report ++ xs) (sym (take_more piece count d inside))
 
--- what a comparer tells after a piece that is all the report's
+-- a comparer tells of what it took
+told_as : (report taken more piece : List ℕ) → more ≡ taken ++ piece
+    → Some (length report ∷ (report ++ more)) ≡ Some ((length report ∷ (report ++ taken)) ++ piece)
+told_as report taken more piece e = ap (λ xs. Some (length report ∷ xs)) (ap (λ xs. report ++ xs) e ∙ sym (append_assoc report taken piece))
+
+-- after a piece that is all the report's
 pub told_more : (report piece rest : List ℕ) (same count : ℕ) (other : Option ℕ) → false ≡ is_some other → rest ≡ drop same report → take count rest ≡ take count piece
-    → Some (taken_of report (same + count) other) ≡ Some (taken_of report same other ++ take count piece)
-told_more report piece rest same count None none is e = ap Some (took_more report piece same count (ap (take count) (sym is) ∙ e))
+    → Some (told_of report (same + count) other) ≡ Some (told_of report same other ++ take count piece)
+told_more report piece rest same count None none is e =
+    told_as report (take same report) (take (same + count) report) (take count piece) (took_more report piece same count (ap (take count) (sym is) ∙ e))
 told_more report piece rest same count (Some b) none is e = absurd (false≢true none)
 
 -- and after one with another byte
 pub told_other : (report piece rest : List ℕ) (same count d : ℕ) (other : Option ℕ) → false ≡ is_some other → rest ≡ drop same report → take count rest ≡ take count piece
-    → count < length piece → Some (take (same + count) report ++ get_or piece count d ∷ []) ≡ Some (taken_of report same other ++ take (count + 1) piece)
-told_other report piece rest same count d None none is e inside = ap Some (took_other report piece same count d (ap (take count) (sym is) ∙ e) inside)
+    → count < length piece → Some (told_of report (same + count) (Some (get_or piece count d))) ≡ Some (told_of report same other ++ take (count + 1) piece)
+told_other report piece rest same count d None none is e inside =
+    told_as report (take same report) (take (same + count) report ++ get_or piece count d ∷ []) (take (count + 1) piece)
+    (took_other report piece same count d (ap (take count) (sym is) ∙ e) inside)
 told_other report piece rest same count d (Some b) none is e inside = absurd (false≢true none)
 
 -- the other byte is not the report's
@@ -104,3 +113,22 @@ whole_same report due same (Some b) whole all = let none = whole.0 in cc
 pub not_whole : (same n : ℕ) (other : Option ℕ) (faults : ℕ) → ForNone other (faults ≡ 0) → 1 ≤ faults → (other ≡ None) × (same ≡ n) → ⊥
 not_whole same n None faults stuck rose whole = let none = stuck refl in omega (arith, none, rose)
 not_whole same n (Some b) faults stuck rose whole = let none = whole.0 in cc
+
+-- what two comparers tell is the same only where their reports are
+pub same_told : (report other taken more : List ℕ) → length report ∷ (report ++ taken) ≡ length other ∷ (other ++ more) → (report ≡ other) × (taken ≡ more)
+same_told report other taken more e =
+    let n : length report ≡ length other = cc in
+    let t : report ++ taken ≡ other ++ more = cc in
+    (sym (take_at report taken (length report) refl) ∙ ap (take (length report)) t ∙ take_at other more (length report) (sym n),
+     sym (drop_at report taken (length report) refl) ∙ ap (drop (length report)) t ∙ drop_at other more (length report) (sym n))
+
+-- the report of a comparer that was handed out, and what it took
+pub took_whole : (report new due : List ℕ) (same : ℕ) (other : Option ℕ)
+    → Some (told_of new same other) ≡ appended (Some (told_of report 0 None)) due → (new ≡ report) × (taken_of new same other ≡ due)
+took_whole report new due same other told =
+    same_told new report (taken_of new same other) due
+    (ap (λ o. unwrap_or o []) told ∙ ap (λ xs. length report ∷ xs) (append_assoc report [] due))
+
+pub took_part : (report new due : List ℕ) (same : ℕ) (other : Option ℕ) (cut : CutShort (Some (told_of report 0 None)) (Some (told_of new same other)) due)
+    → (new ≡ report) × (taken_of new same other ≡ take cut.count due)
+took_part report new due same other cut = took_whole report new (take cut.count due) same other cut.part

@@ -7,6 +7,11 @@ abbrev pub taken_of : List ℕ → ℕ → Option ℕ → List ℕ
 taken_of report same None = take same report
 taken_of report same (Some byte) = take same report ++ byte ∷ []
 
+-- what a comparer tells: the length of its report, the report, and what was taken. So whoever hands it out knows that it compared with
+-- the same report all the time
+abbrev pub told_of : List ℕ → ℕ → Option ℕ → List ℕ
+told_of report same other = length report ∷ (report ++ taken_of report same other)
+
 -- the whole report was taken, and no other byte
 abbrev pub IsWhole : List ℕ → ℕ → Option ℕ → Type 0
 IsWhole report same other = (other ≡ None) × (same ≡ length report)

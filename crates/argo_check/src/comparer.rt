@@ -2,7 +2,7 @@
 
 ghost use Rattle.std.specs.Prelude.{◌≡◌, ◌≢◌, ℕ, ◌≤◌, Some, None, length, take, slice_get, count_by, MatchOption};
 ghost use Rattle.std.specs.Option.{ForSome, ForNone};
-ghost use Rattle.argo_check.specs.Comparing.{taken_of, IsWhole, IsOffIn};
+ghost use Rattle.argo_check.specs.Comparing.{told_of, IsWhole, IsOffIn};
 ghost use Rattle.argo_check.specs.Differences.{is_line_feed};
 
 use argo_outside::{Failed, Sink};
@@ -52,7 +52,7 @@ impl<'a> Comparer<'a> {
 }
 
 impl Sink for Comparer<'_> {
-    ghost written = { λ c. Some (taken_of c.report.now c.same c.other) };
+    ghost written = { λ c. Some (told_of c.report.now c.same c.other) };
 
     ghost faults = { λ c. c.faults };
 
