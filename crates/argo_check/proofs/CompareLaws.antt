@@ -1,10 +1,10 @@
 -- Laws of texts that are compared byte by byte.
-use Rattle.std.proofs.Common.{false, ◌≡◌, ◌≢◌, ℕ, zero, suc, ◌+◌, ◌<◌, ◌≤◌, List, [], ◌∷◌, ◌++◌, length, take, drop, slice_get, get_or, Option, Some, None, refl, sym, ap, ◌∙◌, subst, arith, append_assoc, count_by, unwrap_or}
+use Rattle.std.proofs.Common.{false, ◌≡◌, ◌≢◌, ℕ, zero, suc, ◌+◌, ◌<◌, ◌≤◌, List, [], ◌∷◌, ◌++◌, length, take, drop, slice_get, get_or, Option, Some, None, refl, sym, ap, ◌∙◌, subst, arith, append_assoc, count_by, unwrap_or, MatchOption}
 use Rattle.std.specs.Option.{is_some, ForSome, ForNone}
 use Rattle.std.proofs.lemmas.Bool.{false≢true}
 use Rattle.std.proofs.lemmas.Option.{slice_get-get_or, slice_get_past}
 use Rattle.argo_outside.specs.Sink.{appended, CutShort}
-use Rattle.argo_check.specs.Comparing.{taken_of, told_of}
+use Rattle.argo_check.specs.Comparing.{taken_of, told_of, IsWhole, IsOffIn}
 use Rattle.argo_check.specs.Differences.{is_line_feed, DifferFirstIn}
 use Rattle.std.proofs.Math.Seq.{take-add}
 use Rattle.std.proofs.lemmas.List.{take_more, take_all, take_at, drop_at, length-take-le, append-nil, take-append-drop}
@@ -132,3 +132,39 @@ took_whole report new due same other told =
 pub took_part : (report new due : List ℕ) (same : ℕ) (other : Option ℕ) (cut : CutShort (Some (told_of report 0 None)) (Some (told_of new same other)) due)
     → (new ≡ report) × (taken_of new same other ≡ take cut.count due)
 took_part report new due same other cut = took_whole report new (take cut.count due) same other cut.part
+
+whole_in : (report due : List ℕ) (same : ℕ) (other r : Option ℕ) → same ≤ length report → ForSome other (λ b. slice_get report same ≢ Some b) → taken_of report same other ≡ due
+    → MatchOption r (IsWhole report same other) (λ line. IsOffIn line report same other) → MatchOption r (report ≡ due) (λ line. DifferFirstIn report due line)
+whole_in report due same other None within differs all judged = whole_same report due same other judged all
+whole_in report due same other (Some line) within differs all judged = off_whole report due same line within judged.line_is other judged.part differs all
+
+cut_in : (report due : List ℕ) (same faults count : ℕ) (other r : Option ℕ) → same ≤ length report → ForSome other (λ b. slice_get report same ≢ Some b) → ForNone other (faults ≡ 0)
+    → 1 ≤ faults → taken_of report same other ≡ take count due
+    → MatchOption r (IsWhole report same other) (λ line. IsOffIn line report same other) → MatchOption r (report ≡ due) (λ line. DifferFirstIn report due line)
+cut_in report due same faults count other None within differs stuck rose part judged = absurd (not_whole same (length report) other faults stuck rose judged)
+cut_in report due same faults count other (Some line) within differs stuck rose part judged =
+    off_cut report due same line within judged.line_is other faults count differs stuck rose part
+
+-- the first difference, where the right report was written whole
+pub whole_judged : (report new due old : List ℕ) (same same0 : ℕ) (other other0 : Option ℕ) (r : Option ℕ) → old ≡ report → same0 ≡ 0 → other0 ≡ None
+    → Some (told_of new same other) ≡ appended (Some (told_of old same0 other0)) due
+    → same ≤ length new → ForSome other (λ b. slice_get new same ≢ Some b)
+    → MatchOption r (IsWhole new same other) (λ line. IsOffIn line new same other) → MatchOption r (report ≡ due) (λ line. DifferFirstIn report due line)
+whole_judged report new due old same same0 other other0 r is start none told within differs judged =
+    let e : told_of old same0 other0 ≡ told_of report 0 None = cc in
+    let h = took_whole report new due same other (told ∙ ap (λ xs. appended (Some xs) due) e) in
+    let P : List ℕ → Type 0 = λ xs. MatchOption r (xs ≡ due) (λ line. DifferFirstIn xs due line) in
+    subst P h.0 (whole_in new due same other r within differs h.1 judged)
+
+-- and where it was cut short by a fault
+pub cut_judged : (report new due old : List ℕ) (same same0 faults : ℕ) (other other0 : Option ℕ) (r : Option ℕ) → old ≡ report → same0 ≡ 0 → other0 ≡ None
+    → CutShort (Some (told_of old same0 other0)) (Some (told_of new same other)) due
+    → same ≤ length new → ForSome other (λ b. slice_get new same ≢ Some b) → ForNone other (faults ≡ 0) → 1 ≤ faults
+    → MatchOption r (IsWhole new same other) (λ line. IsOffIn line new same other) → MatchOption r (report ≡ due) (λ line. DifferFirstIn report due line)
+cut_judged report new due old same same0 faults other other0 r is start none cut within differs stuck rose judged =
+    let e : told_of old same0 other0 ≡ told_of report 0 None = cc in
+    let Q : List ℕ → Type 0 = λ xs. CutShort (Some xs) (Some (told_of new same other)) due in
+    let c = subst Q e cut in
+    let h = took_part report new due same other c in
+    let P : List ℕ → Type 0 = λ xs. MatchOption r (xs ≡ due) (λ line. DifferFirstIn xs due line) in
+    subst P h.0 (cut_in new due same faults c.count other r within differs stuck rose h.1 judged)
