@@ -8,6 +8,7 @@ ghost use Rattle.argo_check.specs.Moves.{Goes, Stops, AllFinished, Replayed};
 use argo_base::NoMemory;
 use argo_machine::Machine;
 use argo_model::{Run, Scripts};
+use flat_world::FlatWorld;
 use std::alloc::Global;
 
 /// The machine of a script after the schedule of these runs, if that is complete. A false count costs no more steps than the
@@ -16,11 +17,11 @@ pub(crate) fn replay(
     alloc: Global,
     scripts: &Scripts,
     runs: &[Run],
-) -> Result<Option<Machine>, NoMemory>
+) -> Result<Option<Machine<FlatWorld>>, NoMemory>
     ensures { IfOk result (λ r. MatchOption r (¬ IsComplete scripts.now (schedule_of runs.now))
         (λ m. Replayed scripts.now (schedule_of runs.now) m)) }
 {
-    let mut machine = Machine::new(alloc, scripts)?;
+    let mut machine = Machine::<FlatWorld>::new(alloc, scripts)?;
     for run in runs {
         if !replay_run(&mut machine, *run)? {
             return Ok(None);
@@ -34,7 +35,7 @@ pub(crate) fn replay(
 }
 
 // Makes the steps of a run, or answers that there is none for one of its numbers.
-fn replay_run(machine: &mut Machine, run: Run) -> Result<bool, NoMemory>
+fn replay_run(machine: &mut Machine<FlatWorld>, run: Run) -> Result<bool, NoMemory>
     ensures { IfOk result (λ went. MatchBool went (Goes machine.old run machine.new)
         (Stops machine.old run)) }
 {
@@ -48,7 +49,7 @@ fn replay_run(machine: &mut Machine, run: Run) -> Result<bool, NoMemory>
 }
 
 // Whether every section is finished.
-fn all_finished(machine: &Machine, count: u32) -> bool
+fn all_finished(machine: &Machine<FlatWorld>, count: u32) -> bool
     requires { count ≡ length machine.now.script.sections }
     ensures { MatchBool result (AllFinished machine.now) (¬ AllFinished machine.now) }
 {
