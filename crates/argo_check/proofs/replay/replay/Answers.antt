@@ -1,0 +1,22 @@
+use Rattle.std.proofs.Common.{◌≡◌, ◌≤◌, ◌∙◌, sym, ap, subst, arith, ℕ, length}
+use Rattle.argo_model.specs.Runs.Script.{Script}
+use Rattle.argo_machine.proofs.RunLaws.{few_sections}
+use Rattle.argo_check.proofs.ReplayLaws.{stopped, gone_on, replayed, left_open}
+use Rattle.argo_check.proofs.replay.replay.Goals as goal
+
+pub returns-then-not-went : goal.returns-then-not-went
+returns-then-not-went c =
+    stopped c.args.scripts.now c.args.runs.now c.loop-run.run-index _ c.loop-run.machine c.loop-run-test.true c.loop-run.invariant.0 c.loop-run.invariant.1 c.if-not-went.ensures
+
+pub loop-run-preserved : goal.loop-run-preserved
+loop-run-preserved c =
+    gone_on c.args.scripts.now c.args.runs.now c.loop-run.run-index _ c.loop-run.machine c.loop-run-test.true c.loop-run.invariant.0 c.loop-run.invariant.1
+    c.replay_run-went.new.machine c.if-not-went.ensures
+
+pub returns-then-all_finished : goal.returns-then-all_finished
+returns-then-all_finished c =
+    replayed c.args.scripts.now c.args.runs.now c.loop-run.run-index c.loop-run.machine c.loop-run-test.false c.loop-run.invariant.0 c.loop-run.invariant.1 c.if-all_finished.ensures
+
+pub returns-else-all_finished : goal.returns-else-all_finished
+returns-else-all_finished c =
+    left_open c.args.scripts.now c.args.runs.now c.loop-run.run-index c.loop-run.machine c.loop-run-test.false c.loop-run.invariant.0 c.loop-run.invariant.1 c.if-all_finished.ensures
