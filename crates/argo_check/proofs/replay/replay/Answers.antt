@@ -6,12 +6,13 @@ use Rattle.argo_check.proofs.replay.replay.Goals as goal
 
 pub returns-then-not-went : goal.returns-then-not-went
 returns-then-not-went c =
-    stopped c.args.scripts.now c.args.runs.now c.loop-run.run-index _ c.loop-run.machine c.loop-run-test.true c.loop-run.invariant.0 c.loop-run.invariant.1 c.if-not-went.ensures
+    stopped c.args.scripts.now c.args.runs.now c.loop-run.run-index _ c.loop-run.machine c.loop-run-test.true c.loop-run.invariant.0 c.loop-run.invariant.1
+    (rw c.if-not-went.true at c.in_ok-went.ensures)
 
 pub loop-run-preserved : goal.loop-run-preserved
 loop-run-preserved c =
     gone_on c.args.scripts.now c.args.runs.now c.loop-run.run-index _ c.loop-run.machine c.loop-run-test.true c.loop-run.invariant.0 c.loop-run.invariant.1
-    c.replay_run-went.new.machine c.if-not-went.ensures
+    c.replay_run.new.machine (rw c.if-not-went.false at c.in_ok-went.ensures)
 
 pub returns-then-all_finished : goal.returns-then-all_finished
 returns-then-all_finished c =
