@@ -104,9 +104,10 @@ module _ (s : Script) (runs : List Run) (i : ℕ) (d : Run) (m : Standing) (belo
 
   -- one run more
   pub gone_on : (new : Standing) → Goes m (get_or runs i d) new → (new.script ≡ s) × (new.schedule ≡ schedule_of (take (i + 1) runs))
-  gone_on new goes =
-      (goes.script ∙ same,
-       goes.schedule ∙ ap (λ xs. xs ++ run_numbers (get_or runs i d)) before ∙ sym (schedule-more runs i d below))
+  gone_on new goes = (
+    goes.script ∙ same,
+    goes.schedule ∙ ap (λ xs. xs ++ run_numbers (get_or runs i d)) before ∙ sym (schedule-more runs i d below),
+  )
 
 module _ (s : Script) (runs : List Run) (i : ℕ) (m : Standing) (past : length runs ≤ i) (same : m.script ≡ s) (before : m.schedule ≡ schedule_of (take i runs)) where
   whole : m.schedule ≡ schedule_of runs

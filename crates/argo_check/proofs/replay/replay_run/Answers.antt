@@ -17,6 +17,7 @@ step-requires c = open_where _ (λ none. false≢true (sym c.if-finished.false �
 
 pub loop-preserved : goal.loop-preserved
 loop-preserved c =
-    let ok = c.in_ok-step.ensures.ok in
-    (ok.script ∙ c.loop.invariant.0,
-     goes_on c.args.machine.now.schedule c.loop.machine.schedule c.step.new.self.schedule c.args.run.vcpu c.loop.counter c.loop.invariant.1 ok.schedule)
+    let ok = c.in_ok-step.ensures.ok in (
+      ok.script ∙ c.loop.invariant.0,
+      goes_on c.args.machine.now.schedule c.loop.machine.schedule c.step.new.self.schedule c.args.run.vcpu c.loop.counter c.loop.invariant.1 ok.schedule,
+    )
