@@ -63,10 +63,10 @@ fn status_of(alloc: Global, input: &[u8]) -> Result<CheckStatus, NoMemory> {
 
 // The number of the line of a place.
 fn line_at(text: &[u8], place: usize) -> u64 {
-    let mut line = 1;
+    let mut line = 1_u64;
     for byte in text.iter().take(place) {
         if *byte == b'\n' {
-            line += 1;
+            line = line.saturating_add(1);
         }
     }
     line
