@@ -1,6 +1,3 @@
-use Rattle.std.proofs.Common.{◌≡◌, ◌≤◌, ◌∙◌, sym, ap, subst, arith, ℕ, length}
-use Rattle.argo_model.specs.Runs.Script.{Script}
-use Rattle.argo_machine.proofs.RunLaws.{few_sections}
 use Rattle.argo_check.proofs.ReplayLaws.{stopped, gone_on, replayed, left_open}
 use Rattle.argo_check.proofs.replay.replay.Goals as goal
 

@@ -2,7 +2,7 @@ use Rattle.std.proofs.Common.{List, subst}
 use Rattle.argo_model.specs.declared.closing.Run.{Run}
 use Rattle.argo_model.specs.Runs.Run.{IsComplete}
 use Rattle.argo_model.specs.Runs.Final.{schedule_of}
-use Rattle.argo_check.proofs.VerdictLaws.{incomplete, right, wrong}
+use Rattle.argo_check.proofs.VerdictLaws.{incomplete}
 use Rattle.argo_check.proofs.verdict.judge_by.Goals as goal
 
 pub returns-in_default : goal.returns-in_default
