@@ -118,9 +118,10 @@ not_whole same n (Some b) faults stuck rose whole = let none = whole.0 in cc
 pub same_told : (report other taken more : List ℕ) → length report ∷ (report ++ taken) ≡ length other ∷ (other ++ more) → (report ≡ other) × (taken ≡ more)
 same_told report other taken more e =
     let n : length report ≡ length other = cc in
-    let t : report ++ taken ≡ other ++ more = cc in
-    (sym (take_at report taken (length report) refl) ∙ ap (take (length report)) t ∙ take_at other more (length report) (sym n),
-     sym (drop_at report taken (length report) refl) ∙ ap (drop (length report)) t ∙ drop_at other more (length report) (sym n))
+    let t : report ++ taken ≡ other ++ more = cc in (
+      sym (take_at report taken (length report) refl) ∙ ap (take (length report)) t ∙ take_at other more (length report) (sym n),
+      sym (drop_at report taken (length report) refl) ∙ ap (drop (length report)) t ∙ drop_at other more (length report) (sym n),
+    )
 
 -- the report of a comparer that was handed out, and what it took
 pub took_whole : (report new due : List ℕ) (same : ℕ) (other : Option ℕ)

@@ -1,13 +1,11 @@
 -- Laws of how a check ends.
-use Rattle.std.proofs.Common.{◌≡◌, ◌⊎◌, inl, inr, ℕ, ◌+◌, ◌<◌, ◌≤◌, List, ◌++◌, length, Option, Some, None, refl, sym, ap, ◌∙◌, subst, arith, unwrap_or}
+use Rattle.std.proofs.Common.{◌≡◌, ◌⊎◌, inl, inr, ℕ, ◌+◌, ◌≤◌, List, ◌++◌, length, Option, Some, None, sym, ap, ◌∙◌, subst, arith, unwrap_or}
 use Rattle.std.proofs.lemmas.List.{append-nil, length-append}
 use Rattle.argo_outside.specs.Source.{behind, IsAtEnd}
-use Rattle.argo_outside.specs.Sink.{appended}
 use Rattle.argo_check.specs.declared.words.Form.{Form}
 use Rattle.argo_check.specs.declared.status.CheckStatus.{CheckStatus}
 use Rattle.argo_check.specs.declared.status.CheckStatus.TheVariants as s
-use Rattle.argo_check.specs.Answers.{large_text}
-use Rattle.argo_check.specs.Check.{IsCheck, IsJudged, most_bytes}
+use Rattle.argo_check.specs.Check.{IsCheck, most_bytes}
 use Rattle.argo_check.specs.Ends.{IsRead, IsChecked, IsCutShort, IsLeftOff, IfAnswer, IfUsage, IfSourceFault, IfSinkFault, IfNoMemory, AgreesWith}
 use Rattle.argo_check.specs.Said.{WroteAPart, WroteWhole, Said}
 

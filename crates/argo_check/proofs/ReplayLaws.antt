@@ -1,10 +1,10 @@
 -- Laws of schedules that are replayed.
-use Rattle.std.proofs.Common.{◌≡◌, ◌≢◌, ℕ, zero, suc, ◌+◌, ◌-◌, ◌<◌, ◌≤◌, ◌⊎◌, Bool, true, false, not, ◌&&◌, List, [], ◌∷◌, ◌++◌, length, take, drop, fold, replicate, slice_get, get_or, IsTrue, Option, Some, None, refl, sym, ap, ◌∙◌, subst, arith, append_assoc, drop-cons}
-use Rattle.std.specs.List.{list_all, flat_map}
+use Rattle.std.proofs.Common.{◌≡◌, ◌≢◌, ℕ, zero, suc, ◌+◌, ◌-◌, ◌<◌, ◌≤◌, Bool, true, false, not, ◌&&◌, List, [], ◌∷◌, ◌++◌, length, take, drop, fold, replicate, slice_get, get_or, IsTrue, Option, Some, None, refl, sym, ap, ◌∙◌, subst, arith, append_assoc, drop-cons}
+use Rattle.std.specs.List.{list_all}
 use Rattle.std.specs.Option.{option_and_then}
 use Rattle.std.proofs.lemmas.Bool.{false≢true}
 use Rattle.std.proofs.lemmas.Option.{slice_get_past}
-use Rattle.std.proofs.lemmas.List.{take_more, length-append, replicate-append-replicate, take-append-drop, append-nil}
+use Rattle.std.proofs.lemmas.List.{take_more, take_all, length-append, replicate-append-replicate, take-append-drop, append-nil}
 use Rattle.std.proofs.lemmas.List.Sums.{fold-append}
 use Rattle.std.proofs.lemmas.List.Concat.{flat_map-append}
 use Rattle.argo_model.specs.declared.line.Line.{Line}
@@ -13,6 +13,8 @@ use Rattle.argo_model.specs.Rules.State.{State}
 use Rattle.argo_model.specs.Runs.Script.{Script}
 use Rattle.argo_model.specs.Runs.Run.{Progress, Course, Turn, start, run, step, after_turn, next_turn, turn, turn_at, is_open, is_unfinished, is_finished, has_lines, IsComplete}
 use Rattle.argo_model.specs.Runs.Final.{schedule_of}
+use Rattle.argo_machine.specs.Machine.{Standing}
+use Rattle.argo_check.specs.Moves.{Goes, Stops, AllFinished, Replayed}
 
 -- each number of the schedule makes a step
 abbrev pub EachSteps : Script → List ℕ → Type 0
@@ -76,18 +78,49 @@ abbrev run_numbers : Run → List ℕ
 run_numbers r = replicate r.count r.vcpu
 
 -- the schedule of the runs up to a place, of the run there, and of those behind it
-pub schedule_at : (runs : List Run) (i : ℕ) (r : Run) → i < length runs → r ≡ get_or runs i r
-    → schedule_of runs ≡ schedule_of (take i runs) ++ (replicate r.count r.vcpu ++ schedule_of (drop (i + 1) runs))
-schedule_at runs i r below here =
+schedule_at : (runs : List Run) (i : ℕ) (d : Run) → i < length runs
+    → schedule_of runs ≡ schedule_of (take i runs) ++ (run_numbers (get_or runs i d) ++ schedule_of (drop (i + 1) runs))
+schedule_at runs i d below =
     let e : suc i ≡ i + 1 = omega arith in
-    let parts : runs ≡ take i runs ++ r ∷ drop (i + 1) runs =
-    sym (take-append-drop i runs) ∙ ap (λ xs. take i runs ++ xs) (drop-cons runs i r below ∙ ap (λ n. get_or runs i r ∷ drop n runs) e) ∙ ap (λ x. take i runs ++ x ∷ drop (i + 1) runs) (sym here) in
-    ap schedule_of parts ∙ flat_map-append (λ x. replicate x.count x.vcpu) (take i runs) (r ∷ drop (i + 1) runs)
+    let parts : runs ≡ take i runs ++ get_or runs i d ∷ drop (i + 1) runs =
+    sym (take-append-drop i runs) ∙ ap (λ xs. take i runs ++ xs) (drop-cons runs i d below ∙ ap (λ n. get_or runs i d ∷ drop n runs) e) in
+    ap schedule_of parts ∙ flat_map-append run_numbers (take i runs) (get_or runs i d ∷ drop (i + 1) runs)
 
-pub schedule-more : (runs : List Run) (i : ℕ) (r : Run) → i < length runs → r ≡ get_or runs i r → schedule_of (take (i + 1) runs) ≡ schedule_of (take i runs) ++ replicate r.count r.vcpu
-schedule-more runs i r below here =
-    ap schedule_of (take_more runs i r below) ∙ flat_map-append (λ x. replicate x.count x.vcpu) (take i runs) (get_or runs i r ∷ [])
-    ∙ ap (λ xs. schedule_of (take i runs) ++ xs) (append-nil (replicate (get_or runs i r).count (get_or runs i r).vcpu) ∙ ap run_numbers (sym here))
+schedule-more : (runs : List Run) (i : ℕ) (d : Run) → i < length runs → schedule_of (take (i + 1) runs) ≡ schedule_of (take i runs) ++ run_numbers (get_or runs i d)
+schedule-more runs i d below =
+    ap schedule_of (take_more runs i d below) ∙ flat_map-append run_numbers (take i runs) (get_or runs i d ∷ [])
+    ∙ ap (λ xs. schedule_of (take i runs) ++ xs) (append-nil (run_numbers (get_or runs i d)))
+
+module _ (s : Script) (runs : List Run) (i : ℕ) (d : Run) (m : Standing) (below : i < length runs) (same : m.script ≡ s) (before : m.schedule ≡ schedule_of (take i runs)) where
+  -- a run that stops, in a schedule that is not complete
+  pub stopped : Stops m (get_or runs i d) → ¬ IsComplete s (schedule_of runs)
+  stopped stops complete =
+      let rest = schedule_of (drop (i + 1) runs) in
+      let e : m.schedule ++ (run_numbers (get_or runs i d) ++ rest) ≡ schedule_of runs =
+      ap (λ xs. xs ++ (run_numbers (get_or runs i d) ++ rest)) before ∙ sym (schedule_at runs i d below) in
+      let P : List ℕ → Type 0 = λ xs. length (run m.script xs).steps ≢ length xs in
+      let Q : Script → Type 0 = λ t. length (run t (schedule_of runs)).steps ≢ length (schedule_of runs) in
+      (subst Q same (subst P e (stops rest))) complete.each_steps
+
+  -- one run more
+  pub gone_on : (new : Standing) → Goes m (get_or runs i d) new → (new.script ≡ s) × (new.schedule ≡ schedule_of (take (i + 1) runs))
+  gone_on new goes = (
+    goes.script ∙ same,
+    goes.schedule ∙ ap (λ xs. xs ++ run_numbers (get_or runs i d)) before ∙ sym (schedule-more runs i d below),
+  )
+
+module _ (s : Script) (runs : List Run) (i : ℕ) (m : Standing) (past : length runs ≤ i) (same : m.script ≡ s) (before : m.schedule ≡ schedule_of (take i runs)) where
+  whole : m.schedule ≡ schedule_of runs
+  whole = before ∙ ap schedule_of (take_all i runs past)
+
+  pub replayed : AllFinished m → Replayed s (schedule_of runs) m
+  replayed all = record { script = same; schedule_is = whole; finished = all }
+
+  pub left_open : ¬ AllFinished m → ¬ IsComplete s (schedule_of runs)
+  left_open none complete =
+      let P : Script → Type 0 = λ t. IsTrue (list_all is_finished (run t m.schedule).sections) in
+      let Q : List ℕ → Type 0 = λ xs. IsTrue (list_all is_finished (run s xs).sections) in
+      none (subst P (sym same) (subst Q (sym whole) complete.all_finished))
 
 pub open_where : (b : Bool) → b ≢ false → IsTrue b
 open_where true h = refl

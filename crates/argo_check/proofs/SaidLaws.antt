@@ -1,6 +1,5 @@
 -- Laws of how the writing of what is due ends.
-use Rattle.std.proofs.Common.{◌≡◌, ℕ, ◌≤◌, ◌<◌, ◌⊎◌, inl, inr, List, ◌++◌, length, Option, Result, Ok, Err, refl, sym, ap, ◌∙◌, subst}
-use Rattle.argo_outside.specs.Sink.{appended, CutShort}
+use Rattle.std.proofs.Common.{◌≡◌, ℕ, ◌≤◌, inl, inr, List, length, Option, Result, Ok, Err, refl, sym, subst}
 use Rattle.argo_model.specs.declared.closing.Run.{Run}
 use Rattle.argo_model.specs.Runs.Script.{Script}
 use Rattle.script_text.specs.declared.kind.ScriptFault.{ScriptFault}
@@ -9,9 +8,9 @@ use Rattle.argo_check.specs.declared.words.Form.{Form}
 use Rattle.argo_check.specs.declared.words.Form.TheVariants.{Plain}
 use Rattle.argo_check.specs.declared.status.CheckStatus.{CheckStatus}
 use Rattle.argo_check.specs.declared.status.CheckStatus.TheVariants as s
-use Rattle.argo_check.specs.Answers.{large_text, mark_text, yes_text, no_text, fault_text}
-use Rattle.argo_check.specs.Check.{IsYes, IsAnswer, IsFault, IsAnswerFor, IsJudged, IsCheck, most_bytes}
-use Rattle.argo_check.specs.Cut.{IsCut, HasNoMark}
+use Rattle.argo_check.specs.Answers.{yes_text, no_text, fault_text}
+use Rattle.argo_check.specs.Check.{IsAnswer, IsFault, IsAnswerFor, IsJudged, IsCheck, most_bytes}
+use Rattle.argo_check.specs.Cut.{IsCut}
 use Rattle.argo_check.specs.Said.{Dues, Just, WroteAPart, WroteWhole, Said, Told}
 use Rattle.argo_check.specs.Verdicts.{IsRight, IsWrongAt}
 

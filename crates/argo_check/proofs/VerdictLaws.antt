@@ -1,14 +1,13 @@
 -- Laws of the verdict on a report.
-use Rattle.std.proofs.Common.{◌≡◌, ◌≢◌, ℕ, ◌⊎◌, inl, inr, Bool, true, false, ◌==◌, ◌&&◌, ◌||◌, IsTrue, List, ◌++◌, Result, Ok, Err, IfOk, IfErr, refl, sym, ap, ◌∙◌, subst, arith}
-use Rattle.std.proofs.lemmas.Bool.{false≢true}
+use Rattle.std.proofs.Common.{◌≡◌, ℕ, ◌⊎◌, inl, inr, Bool, true, false, ◌==◌, ◌&&◌, ◌||◌, IsTrue, List, ◌++◌, Result, Ok, refl, ap, ◌∙◌, subst, arith}
 use Rattle.std.proofs.lemmas.Bool.Decides.{nat_tests}
 use Rattle.argo_model.specs.declared.closing.Run.{Run}
 use Rattle.argo_model.specs.declared.closing.Final.{Final}
-use Rattle.argo_model.specs.Runs.Script.{Script, is_lawful, is_section_of_one}
+use Rattle.argo_model.specs.Runs.Script.{Script, is_lawful}
 use Rattle.argo_model.specs.Runs.Run.{IsComplete}
 use Rattle.argo_model.specs.Runs.Final.{final_of, schedule_of}
-use Rattle.argo_model.specs.Runs.Report.{report_of, opening_line, schedule_line}
-use Rattle.report_read.specs.Schedule.{HasOpening, Names, IsRefusal}
+use Rattle.argo_model.specs.Runs.Report.{report_of, schedule_line}
+use Rattle.report_read.specs.Schedule.{Names, IsRefusal}
 use Rattle.argo_check.specs.Differences.{DifferFirstIn}
 use Rattle.argo_check.specs.Judged.{OnlyNames}
 use Rattle.argo_check.specs.Verdicts.{HasSchedule, due_report, IsRight, IsWrongAt}

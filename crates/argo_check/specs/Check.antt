@@ -8,7 +8,7 @@ use Rattle.script_text.specs.Scripts.{scripts_of}
 use Rattle.argo_check.specs.declared.words.Form.{Form}
 use Rattle.argo_check.specs.declared.words.Form.TheVariants.{Plain}
 use Rattle.argo_check.specs.declared.status.CheckStatus.{CheckStatus}
-use Rattle.argo_check.specs.declared.status.CheckStatus.TheVariants.{Yes, No, Usage, SourceFault, SinkFault, Script as script_fault, NoMemory, Mark, Large}
+use Rattle.argo_check.specs.declared.status.CheckStatus.TheVariants.{Yes, No, Script as script_fault, Mark, Large}
 use Rattle.argo_check.specs.Answers.{large_text, mark_text, yes_text, no_text, fault_text}
 use Rattle.argo_check.specs.Cut.{IsCut, HasNoMark}
 use Rattle.argo_check.specs.Verdicts.{IsRight, IsWrongAt}

@@ -1,5 +1,5 @@
 -- What a comparer has taken.
-use Rattle.std.specs.Prelude.{◌≡◌, ℕ, ◌+◌, ◌<◌, ◌≤◌, List, [], ◌∷◌, ◌++◌, length, take, count_by, Option, Some, None}
+use Rattle.std.specs.Prelude.{◌≡◌, ℕ, ◌+◌, ◌<◌, List, [], ◌∷◌, ◌++◌, length, take, count_by, Option, Some, None}
 use Rattle.argo_check.specs.Differences.{is_line_feed}
 
 -- the first bytes of a report, and the byte behind them that differs from it, if there is one

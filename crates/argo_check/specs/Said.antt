@@ -3,7 +3,6 @@ use Rattle.std.specs.Prelude.{◌≡◌, ℕ, ◌⊎◌, List, Option, ⊤}
 use Rattle.argo_outside.specs.Sink.{appended, CutShort}
 use Rattle.argo_check.specs.declared.status.CheckStatus.{CheckStatus}
 use Rattle.argo_check.specs.declared.status.CheckStatus.TheVariants as s
-use Rattle.argo_check.specs.Answers.{usage_text}
 
 -- statuses, each with the texts that are due with it
 abbrev pub Dues : Type 1

@@ -21,7 +21,8 @@ pub(crate) fn first_difference(
 {
     let mut comparer = Comparer::new(report);
     match write_report(alloc, &mut comparer, shown) {
-        Ok(()) | Err(WriteFault::Sink) => Ok(comparer.difference()),
+        Ok(()) => Ok(comparer.difference()),
+        Err(WriteFault::Sink) => Ok(comparer.difference()),
         Err(WriteFault::NoMemory) => Err(NoMemory),
     }
 }

@@ -23,7 +23,8 @@ pub(crate) fn replay(
 {
     let mut machine = Machine::<FlatWorld>::new(alloc, scripts)?;
     for run in runs {
-        if !replay_run(&mut machine, *run)? {
+        let went = replay_run(&mut machine, *run)?;
+        if !went {
             return Ok(None);
         }
     }

@@ -63,10 +63,10 @@ fn status_of(alloc: Global, input: &[u8]) -> Result<CheckStatus, NoMemory> {
 
 // The number of the line of a place.
 fn line_at(text: &[u8], place: usize) -> u64 {
-    let mut line = 1;
+    let mut line = 1_u64;
     for byte in text.iter().take(place) {
         if *byte == b'\n' {
-            line += 1;
+            line = line.saturating_add(1);
         }
     }
     line
@@ -104,8 +104,20 @@ fn an_input_has_its_answer(rt: HostRuntime) -> Result<(), Fail> {
         ("", SCRIPT, REPORT, b"yes\n".as_slice(), 0),
         ("", b"argo 1\nx\n", REPORT, b"script line 2: word\n", 5),
         ("", b"argo 1\r\n%%\r\n", REPORT, b"script line 2: word\n", 5),
-        ("", b"argo 1\n", b"argo report 1\nschedule\nend\n%%\n", b"no line 4\n", 1),
-        ("", b"argo 1\n", b"argo report 1\nschedule\nend\n", b"yes\n", 0),
+        (
+            "",
+            b"argo 1\n",
+            b"argo report 1\nschedule\nend\n%%\n",
+            b"no line 4\n",
+            1,
+        ),
+        (
+            "",
+            b"argo 1\n",
+            b"argo report 1\nschedule\nend\n",
+            b"yes\n",
+            0,
+        ),
     ] {
         let words = words_of(rt.alloc(), words)?;
         let input = input_of(rt.alloc(), script, behind)?;
@@ -120,26 +132,39 @@ fn an_input_has_its_answer(rt: HostRuntime) -> Result<(), Fail> {
 
 #[test]
 fn an_input_needs_a_mark_that_is_a_line(rt: HostRuntime) -> Result<(), Fail> {
-    for text in [b"".as_slice(), b"%", b"argo 1\n %%\n", b"argo 1\n%%\r\n", b"argo 1%%\n"] {
+    for text in [
+        b"".as_slice(),
+        b"%",
+        b"argo 1\n %%\n",
+        b"argo 1\n%%\r\n",
+        b"argo 1%%\n",
+    ] {
         assert_eq!(rt; status_of(rt.alloc(), text)?, CheckStatus::Mark);
     }
     let kind = ScriptKind::Header;
-    assert_eq!(rt; status_of(rt.alloc(), b"%%")?, CheckStatus::Script { line: 0, kind });
-    assert_eq!(rt; status_of(rt.alloc(), b"argo 1\n%%")?, CheckStatus::No { line: 1 });
+    assert_eq!(rt;
+        status_of(rt.alloc(), b"%%")?,
+        CheckStatus::Script { line: 0, kind }
+    );
+    assert_eq!(rt;
+        status_of(rt.alloc(), b"argo 1\n%%")?,
+        CheckStatus::No { line: 1 }
+    );
     Ok(())
 }
 
 #[test]
 fn wrong_words_are_answered_by_the_usage(rt: HostRuntime) -> Result<(), Fail> {
-    for text in [
-        "why 1 5",
-        "yes",
-    ] {
+    for text in ["why 1 5", "yes"] {
         let words = words_of(rt.alloc(), text)?;
         let mut src = source(rt.alloc(), SCRIPT, &[])?;
         let mut out = sink(rt.alloc(), &[])?;
         let status = check(rt.alloc(), &words, &mut src, &mut out);
-        assert_eq!(rt; (status, status.number()), (CheckStatus::Usage, 2), "at {text}");
+        assert_eq!(rt;
+            (status, status.number()),
+            (CheckStatus::Usage, 2),
+            "at {text}"
+        );
         assert_eq!(rt; out.as_slice(), USAGE, "at {text}");
         assert_eq!(rt; src.calls, 0, "at {text}");
     }

@@ -1,4 +1,4 @@
-use Rattle.std.proofs.Common.{arith, ap, length}
+use Rattle.std.proofs.Common.{arith}
 use Rattle.argo_check.proofs.CutLaws.{mark_inside}
 use Rattle.argo_check.proofs.cut.cut.Goals as goal
 

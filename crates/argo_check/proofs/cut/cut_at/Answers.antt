@@ -1,4 +1,4 @@
-use Rattle.argo_check.proofs.CutLaws.{no_mark_here, no_line_here}
+use Rattle.argo_check.proofs.CutLaws.{no_mark_here}
 use Rattle.argo_check.proofs.cut.cut_at.Goals as goal
 
 pub returns-in_err-after : goal.returns-in_err-after

@@ -1,4 +1,4 @@
-use Rattle.std.proofs.Common.{refl, arith}
+use Rattle.std.proofs.Common.{refl}
 use Rattle.argo_outside.specs.Faults.{Rose}
 use Rattle.script_text.specs.Scripts.{scripts_of}
 use Rattle.argo_check.specs.declared.status.CheckStatus.TheVariants as s

@@ -2,7 +2,7 @@ use Rattle.std.proofs.Common.{List, ℕ, subst}
 use Rattle.argo_outside.specs.Faults.{Rose}
 use Rattle.argo_check.specs.Check.{IsCheck}
 use Rattle.argo_check.specs.Said.{Said}
-use Rattle.argo_check.proofs.EndLaws.{ends_answering, ends_read, ends_cut, ends_left_off, ends_agreeing}
+use Rattle.argo_check.proofs.EndLaws.{ends_answering, ends_agreeing}
 use Rattle.argo_check.proofs.program.check_source.Goals as goal
 
 pub returns-in-Ok-clause-answer : goal.returns-in-Ok-clause-answer
