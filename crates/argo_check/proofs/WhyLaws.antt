@@ -1,0 +1,1 @@
+-- Laws of the steps that are shown of a line.
