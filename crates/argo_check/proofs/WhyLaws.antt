@@ -1,5 +1,5 @@
 -- Laws of the steps that are shown of a line.
-use Rattle.std.proofs.Common.{◌≡◌, ℕ, ◌+◌, ◌^◌, ◌<◌, List, [], ◌∷◌, ◌++◌, length, slice_get, Option, Some, None, refl, sym, ap, ◌∙◌, subst, arith, append_assoc}
+use Rattle.std.proofs.Common.{◌≡◌, ℕ, ◌+◌, ◌^◌, ◌<◌, List, [], ◌∷◌, ◌++◌, length, slice_get, Option, Some, None, refl, sym, ap, ◌∙◌, subst, arith, append_assoc, unwrap_or}
 use Rattle.std.specs.Option.{option_map, option_and_then}
 use Rattle.std.proofs.lemmas.List.{length-append, append-nil}
 use Rattle.std.proofs.lemmas.List.Sums.{fold-append}
@@ -8,6 +8,7 @@ use Rattle.argo_model.specs.declared.action.Action.{Action}
 use Rattle.argo_model.specs.declared.action.Outcome.{Outcome}
 use Rattle.argo_model.specs.Programs.Program.{Next, Do, Say, program}
 use Rattle.argo_model.specs.Rules.Act.{Effect}
+use Rattle.argo_model.specs.Rules.Shorts.{short_of}
 use Rattle.argo_model.specs.Rules.State.{State}
 use Rattle.argo_model.specs.Runs.Run.{Progress, Step, Course, Turn, start, run, step, step_of, after_turn, next_turn, turn, turn_at, turn_by, turn_to}
 use Rattle.argo_machine.specs.Machine.{Standing, OneStep}
@@ -17,16 +18,16 @@ use Rattle.argo_check.specs.Why.{shown_step, shown_from}
 
 -- one step more is shown behind the others
 shown-more : (p : Place) (n : ℕ) (xs : List Step) (t : Step)
-    → shown_from p n (xs ++ t ∷ []) ≡ shown_from p n xs ++ shown_step p (n + length xs) t.vcpu t.line t.outcome
+    → shown_from p n (xs ++ t ∷ []) ≡ shown_from p n xs ++ shown_step p (n + length xs) t.vcpu t.line (short_of t.outcome)
 shown-more p n [] t =
     let e : n ≡ n + length ([] {A = Step}) = omega arith in
-    append-nil (shown_step p n t.vcpu t.line t.outcome) ∙ ap (λ k. shown_step p k t.vcpu t.line t.outcome) e
+    append-nil (shown_step p n t.vcpu t.line (short_of t.outcome)) ∙ ap (λ k. shown_step p k t.vcpu t.line (short_of t.outcome)) e
 shown-more p n (x ∷ xs) t =
     let e : (n + 1) + length xs ≡ n + length (x ∷ xs) = omega arith in
-    let first = shown_step p n x.vcpu x.line x.outcome in
+    let first = shown_step p n x.vcpu x.line (short_of x.outcome) in
     let rest = shown_from p (n + 1) xs in
-    ap (λ ys. first ++ ys) (shown-more p (n + 1) xs t ∙ ap (λ k. rest ++ shown_step p k t.vcpu t.line t.outcome) e)
-    ∙ sym (append_assoc first rest (shown_step p (n + length (x ∷ xs)) t.vcpu t.line t.outcome))
+    ap (λ ys. first ++ ys) (shown-more p (n + 1) xs t ∙ ap (λ k. rest ++ shown_step p k t.vcpu t.line (short_of t.outcome)) e)
+    ∙ sym (append_assoc first rest (shown_step p (n + length (x ∷ xs)) t.vcpu t.line (short_of t.outcome)))
 
 turned_line : (p : Progress) (rest : List Line) (a : Action) (e : Effect) (next : Next) → (turn_to p rest a e next).line ≡ p.done + 1
 turned_line p rest a e (Do b) = refl
@@ -57,33 +58,33 @@ turned : (c : Course) (v k : ℕ) (o : Outcome) (next : Option Turn) → ((t : T
 turned c v k o None line is = cc
 turned c v k o (Some t) line is = record { one = step_of v t; behind = refl; vcpu = refl; line = line t refl; outcome = cc }
 
-stepped_at : (c : Course) (v d : ℕ) (o : Outcome) (at : Option Progress) → Some d ≡ option_map (λ p. p.done) at
-    → option_map (λ t. t.outcome) (option_and_then (turn c.state) at) ≡ Some o → Joins c.steps v (d + 1) o (after_turn c v (option_and_then (turn c.state) at)).steps
-stepped_at c v d o None done is = cc
-stepped_at c v d o (Some p) done is =
-    let e : p.done ≡ d = cc in
-    turned c v (d + 1) o (turn c.state p) (λ t h. turn_at-line c.state p p.left t h ∙ ap (λ n. n + 1) e) is
+stepped_at : (c : Course) (v k : ℕ) (o : Outcome) (done : Option ℕ) (at : Option Progress) → done ≡ option_map (λ p. p.done) at → k ≡ unwrap_or done 0 + 1
+    → option_map (λ t. t.outcome) (option_and_then (turn c.state) at) ≡ Some o → Joins c.steps v k o (after_turn c v (option_and_then (turn c.state) at)).steps
+stepped_at c v k o done None done_is line_is is = cc
+stepped_at c v k o done (Some p) done_is line_is is =
+    let e : p.done + 1 ≡ k = ap (λ r. unwrap_or r 0 + 1) (sym done_is) ∙ sym line_is in
+    turned c v k o (turn c.state p) (λ t h. turn_at-line c.state p p.left t h ∙ e) is
 
-module _ (p : Place) (m new : Standing) (steps v d : ℕ) (text : List ℕ) (o : Outcome) (walk : IsWalk p m steps text) where
+module _ (p : Place) (m new : Standing) (steps v k : ℕ) (done : Option ℕ) (text : List ℕ) (o : Outcome) (walk : IsWalk p m steps text) where
   -- one step more of a walk
-  pub walk_on : Some d ≡ option_map (λ q. q.done) (slice_get (run m.script m.schedule).sections v) → OneStep m v o new
-      → IsWalk p new (steps + 1) (text ++ shown_step p (steps + 1) v (d + 1) o)
-  walk_on done goes =
+  pub walk_on : done ≡ option_map (λ q. q.done) (slice_get (run m.script m.schedule).sections v) → k ≡ unwrap_or done 0 + 1 → OneStep m v o new
+      → IsWalk p new (steps + 1) (text ++ shown_step p (steps + 1) v k (short_of o))
+  walk_on done_is line_is goes =
       let c = run m.script m.schedule in
       let e : run new.script new.schedule ≡ step c v =
       ap (λ t. run t new.schedule) goes.script ∙ ap (run m.script) goes.schedule ∙ fold-append step (start m.script) m.schedule (v ∷ []) in
-      let h = stepped_at c v d o (slice_get c.sections v) done goes.outcome_is in
+      let h = stepped_at c v k o done (slice_get c.sections v) done_is line_is goes.outcome_is in
       let all : (run new.script new.schedule).steps ≡ c.steps ++ h.one ∷ [] = ap (λ x. x.steps) e ∙ h.behind in
       let n : 1 + length c.steps ≡ steps + 1 = omega (arith, walk.counted, walk.each) in
-      let now : shown_step p (1 + length c.steps) h.one.vcpu h.one.line h.one.outcome ≡ shown_step p (steps + 1) v (d + 1) o =
-      ap (λ k. shown_step p k h.one.vcpu h.one.line h.one.outcome) n ∙ ap (λ w. shown_step p (steps + 1) w h.one.line h.one.outcome) h.vcpu
-      ∙ ap (λ k. shown_step p (steps + 1) v k h.one.outcome) h.line ∙ ap (shown_step p (steps + 1) v (d + 1)) h.outcome in
+      let now : shown_step p (1 + length c.steps) h.one.vcpu h.one.line (short_of h.one.outcome) ≡ shown_step p (steps + 1) v k (short_of o) =
+      ap (λ i. shown_step p i h.one.vcpu h.one.line (short_of h.one.outcome)) n ∙ ap (λ w. shown_step p (steps + 1) w h.one.line (short_of h.one.outcome)) h.vcpu
+      ∙ ap (λ l. shown_step p (steps + 1) v l (short_of h.one.outcome)) h.line ∙ ap (λ x. shown_step p (steps + 1) v k (short_of x)) h.outcome in
       record {
         counted = omega (arith, walk.counted, ap length goes.schedule, length-append m.schedule (v ∷ []));
         each = omega (arith, walk.each, ap length all, length-append c.steps (h.one ∷ []), ap length goes.schedule, length-append m.schedule (v ∷ []));
         few = omega (arith, walk.few, goes.nearer);
         shown =
-            ap (λ xs. xs ++ shown_step p (steps + 1) v (d + 1) o) walk.shown ∙ ap (λ xs. shown_from p 1 c.steps ++ xs) (sym now)
+            ap (λ xs. xs ++ shown_step p (steps + 1) v k (short_of o)) walk.shown ∙ ap (λ xs. shown_from p 1 c.steps ++ xs) (sym now)
             ∙ sym (shown-more p 1 c.steps h.one) ∙ ap (shown_from p 1) (sym all);
       }
 

@@ -1,6 +1,5 @@
 -- Why a line of a script has its reply: its steps with their places in the schedule, and the reply.
 use Rattle.std.specs.Prelude.{ℕ, ◌+◌, Bool, false, ◌&&◌, ◌==◌, nat_le, if◌then◌else◌, List, [], ◌∷◌, ◌++◌, length, flat_map, slice_get, codes, decimal, Option, Some, None}
-use Rattle.argo_model.specs.declared.action.Outcome.{Outcome}
 use Rattle.argo_model.specs.declared.closing.DoneLine.{DoneLine}
 use Rattle.argo_model.specs.declared.reply.Reply.{Reply}
 use Rattle.argo_model.specs.declared.short.Short.{Short}
@@ -24,18 +23,18 @@ is_asked p v k = (v == p.vcpu) && (k == p.line)
 abbrev pub short_text : Short → List ℕ
 short_text s = decimal s.tag ++ codes "." ++ decimal s.value
 
--- the step at a place of the schedule, and its outcome in short
-abbrev pub step_line : ℕ → Outcome → List ℕ
-step_line n o = line (codes "step" ∷ decimal n ∷ short_text (short_of o) ∷ [])
+-- the step at a place of the schedule, and its outcome
+abbrev pub step_line : ℕ → Short → List ℕ
+step_line n outcome = line (codes "step" ∷ decimal n ∷ short_text outcome ∷ [])
 
--- the n-th step of a run, which is one of line k of section v and has this outcome
-abbrev pub shown_step : Place → ℕ → ℕ → ℕ → Outcome → List ℕ
-shown_step p n v k o = if is_asked p v k then step_line n o else []
+-- the n-th step of a run, which is one of line k of section v, where that is the line that is asked for
+abbrev pub shown_step : Place → ℕ → ℕ → ℕ → Short → List ℕ
+shown_step p n v k outcome = if is_asked p v k then step_line n outcome else []
 
 -- the steps of the line that is asked for, among steps of which the first is the n-th of a run
 abbrev pub shown_from : Place → ℕ → List Step → List ℕ
 shown_from p n [] = []
-shown_from p n (t ∷ ts) = shown_step p n t.vcpu t.line t.outcome ++ shown_from p (n + 1) ts
+shown_from p n (t ∷ ts) = shown_step p n t.vcpu t.line (short_of t.outcome) ++ shown_from p (n + 1) ts
 
 -- a reply
 abbrev pub reply_line : Reply → List ℕ

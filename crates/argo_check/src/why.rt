@@ -1,16 +1,16 @@
 //! Why a line has its reply: its steps with their places in the schedule, and the reply.
 
-ghost use Rattle.std.specs.Prelude.{◌≡◌, ◌++◌, IfOk, OnOk, IsTrue, flat_map, slice_get};
+ghost use Rattle.std.specs.Prelude.{◌≡◌, ◌∷◌, [], ◌++◌, IfOk, OnOk, IsTrue, flat_map, slice_get};
 ghost use Rattle.argo_model.specs.Runs.Run.{IsComplete, is_open, run as run_under};
 ghost use Rattle.argo_model.specs.Runs.Final.{schedule_of};
 ghost use Rattle.argo_check.specs.Moves.{Goes, Replayed};
 ghost use Rattle.argo_check.specs.Walks.{CanGo, IsWalk};
-ghost use Rattle.argo_check.specs.Why.{has_line, is_asked, step_line, reply_line, shown_reply, why_text};
+ghost use Rattle.argo_check.specs.Why.{has_line, is_asked, step_line, shown_step, reply_line, shown_reply, why_text};
 
 use crate::words::Place;
 use argo_base::{Bytes, NoMemory};
 use argo_machine::Machine;
-use argo_model::{DoneLine, Outcome, Reply, Run, Scripts};
+use argo_model::{DoneLine, Reply, Run, Scripts, Short};
 use flat_world::FlatWorld;
 use report_text::reply_text;
 use std::alloc::Global;
@@ -117,11 +117,42 @@ impl Walk {
         let line = u64::from(self.machine.done_lines(v).unwrap_or(0)) + 1;
         let outcome = self.machine.step(v)?;
         self.steps += 1;
-        if is_asked(place, v, line) {
-            push_step(&mut self.text, alloc, self.steps, &outcome)?;
-        }
+        let made = Made {
+            at: self.steps,
+            vcpu: v,
+            line,
+            short: short_of(&outcome),
+        };
+        push_made(&mut self.text, alloc, made, place)?;
         Ok(())
     }
+}
+
+// A step that was made.
+#[derive(Clone, Copy)]
+struct Made {
+    /// Its place in the schedule, from 1.
+    at: u64,
+    vcpu: u32,
+    line: u64,
+    /// Its outcome in short.
+    short: Short,
+}
+
+// Adds the line of a step, where it is one of the line that is asked for.
+fn push_made(
+    text: &mut Bytes,
+    alloc: Global,
+    made: Made,
+    place: Place,
+) -> Result<(), NoMemory>
+    ensures { OnOk result (text.new
+        ≡ text.old ++ shown_step place made.at made.vcpu made.line made.short) }
+{
+    if is_asked(place, made.vcpu, made.line) {
+        push_step(text, alloc, made.at, made.short)?;
+    }
+    Ok(())
 }
 
 // Adds the line of a step.
@@ -129,11 +160,10 @@ fn push_step(
     text: &mut Bytes,
     alloc: Global,
     at: u64,
-    outcome: &Outcome,
+    short: Short,
 ) -> Result<(), NoMemory>
-    ensures { OnOk result (text.new ≡ text.old ++ step_line at outcome.now) }
+    ensures { OnOk result (text.new ≡ text.old ++ step_line at short) }
 {
-    let short = short_of(outcome);
     let line = format!(in alloc; "step {at} {}.{}\n", short.tag, short.value)?;
     text.append(line.as_bytes())
 }
