@@ -1,20 +1,25 @@
 -- Laws of the steps that are shown of a line.
-use Rattle.std.proofs.Common.{◌≡◌, ℕ, ◌+◌, ◌^◌, ◌<◌, List, [], ◌∷◌, ◌++◌, length, slice_get, Option, Some, None, refl, sym, ap, ◌∙◌, subst, arith, append_assoc, unwrap_or}
+use Rattle.std.proofs.Common.{◌≡◌, ℕ, ◌+◌, ◌^◌, ◌<◌, Bool, true, false, cond, List, [], ◌∷◌, ◌++◌, length, slice_get, Option, Some, None, refl, sym, ap, ◌∙◌, subst, arith, append_assoc, unwrap_or, flat_map}
 use Rattle.std.specs.Option.{option_map, option_and_then}
 use Rattle.std.proofs.lemmas.List.{length-append, append-nil}
 use Rattle.std.proofs.lemmas.List.Sums.{fold-append}
 use Rattle.argo_model.specs.declared.line.Line.{Line}
 use Rattle.argo_model.specs.declared.action.Action.{Action}
 use Rattle.argo_model.specs.declared.action.Outcome.{Outcome}
+use Rattle.argo_model.specs.declared.closing.DoneLine.{DoneLine}
+use Rattle.argo_model.specs.declared.closing.Final.{Final}
 use Rattle.argo_model.specs.Programs.Program.{Next, Do, Say, program}
 use Rattle.argo_model.specs.Rules.Act.{Effect}
 use Rattle.argo_model.specs.Rules.Shorts.{short_of}
 use Rattle.argo_model.specs.Rules.State.{State}
 use Rattle.argo_model.specs.Runs.Run.{Progress, Step, Course, Turn, start, run, step, step_of, after_turn, next_turn, turn, turn_at, turn_by, turn_to}
+use Rattle.argo_model.specs.Runs.Final.{done_of, final_of}
+use Rattle.argo_model.specs.Runs.Script.{Script}
 use Rattle.argo_machine.specs.Machine.{Standing, OneStep}
 use Rattle.argo_check.specs.declared.words.Place.{Place}
+use Rattle.argo_check.specs.Moves.{Replayed}
 use Rattle.argo_check.specs.Walks.{IsWalk}
-use Rattle.argo_check.specs.Why.{shown_step, shown_from}
+use Rattle.argo_check.specs.Why.{has_line, shown_step, shown_from, shown_reply, no_line_text, why_text}
 
 -- one step more is shown behind the others
 shown-more : (p : Place) (n : ℕ) (xs : List Step) (t : Step)
@@ -97,3 +102,22 @@ walk_from p m none few =
       few = omega (arith, few);
       shown = sym (ap (λ xs. shown_from p 1 (run m.script xs).steps) none);
     }
+
+module _ (p : Place) (s : Script) (schedule : List ℕ) (there : Bool) (line : there ≡ has_line (slice_get s.sections p.vcpu) p.line) where
+  steps_shown : List ℕ
+  steps_shown = shown_from p 1 (run s schedule).steps ++ flat_map (shown_reply p) (done_of (run s schedule).steps)
+
+  -- there is no such line
+  pub no_line : there ≡ false → no_line_text ≡ why_text p s schedule
+  no_line none = sym (ap (λ b. cond b steps_shown no_line_text) (sym line ∙ none))
+
+  -- the replies come behind the steps of a whole walk
+  pub all_shown : there ≡ true → (m : Standing) (steps : ℕ) (text new : List ℕ) (f : Final) (done : List DoneLine) → Replayed s schedule m → IsWalk p m steps text
+      → f ≡ final_of m.script m.schedule → done ≡ f.done → new ≡ text ++ flat_map (shown_reply p) done → new ≡ why_text p s schedule
+  all_shown some m steps text new f done replayed walk final done_is new_is =
+      let e : run m.script m.schedule ≡ run s schedule = ap (λ t. run t m.schedule) replayed.script ∙ ap (run s) replayed.schedule_is in
+      let ds : done ≡ done_of (run m.script m.schedule).steps = done_is ∙ ap (λ x. x.done) final in
+      new_is ∙ ap (λ t. t ++ flat_map (shown_reply p) done) walk.shown
+      ∙ ap (λ xs. shown_from p 1 (run m.script m.schedule).steps ++ flat_map (shown_reply p) xs) ds
+      ∙ ap (λ c. shown_from p 1 c.steps ++ flat_map (shown_reply p) (done_of c.steps)) e
+      ∙ sym (ap (λ b. cond b steps_shown no_line_text) (sym line ∙ some))

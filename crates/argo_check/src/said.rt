@@ -92,10 +92,11 @@ fn yes_text(
         (λ text. text ≡ yes_text ++ further_text form scripts.now (schedule_of runs.now)) }
 {
     let mut text = Bytes::copy_of(alloc, b"yes\n")?;
-    if let Form::Why(place) = form {
-        let why = why_text(alloc, scripts, runs, place)?;
-        text.append(why.as_slice())?;
-    }
+    let Form::Why(place) = form else {
+        return Ok(text);
+    };
+    let why = why_text(alloc, scripts, runs, place)?;
+    text.append(why.as_slice())?;
     Ok(text)
 }
 
