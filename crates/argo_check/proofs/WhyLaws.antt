@@ -25,7 +25,7 @@ use Rattle.argo_check.specs.Why.{has_line, shown_step, shown_from, shown_reply, 
 shown-more : (p : Place) (n : ℕ) (xs : List Step) (t : Step)
     → shown_from p n (xs ++ t ∷ []) ≡ shown_from p n xs ++ shown_step p (n + length xs) t.vcpu t.line (short_of t.outcome)
 shown-more p n [] t =
-    let e : n ≡ n + length ([] {A = Step}) = omega arith in
+    let e : n ≡ n + 0 = omega arith in
     append-nil (shown_step p n t.vcpu t.line (short_of t.outcome)) ∙ ap (λ k. shown_step p k t.vcpu t.line (short_of t.outcome)) e
 shown-more p n (x ∷ xs) t =
     let e : (n + 1) + length xs ≡ n + length (x ∷ xs) = omega arith in
@@ -63,10 +63,10 @@ turned : (c : Course) (v k : ℕ) (o : Outcome) (next : Option Turn) → ((t : T
 turned c v k o None line is = cc
 turned c v k o (Some t) line is = record { one = step_of v t; behind = refl; vcpu = refl; line = line t refl; outcome = cc }
 
-stepped_at : (c : Course) (v k : ℕ) (o : Outcome) (done : Option ℕ) (at : Option Progress) → done ≡ option_map (λ p. p.done) at → k ≡ unwrap_or done 0 + 1
+stepped_at : (c : Course) (v k : ℕ) (o : Outcome) (count : Option ℕ) (at : Option Progress) → count ≡ option_map (λ p. p.done) at → k ≡ unwrap_or count 0 + 1
     → option_map (λ t. t.outcome) (option_and_then (turn c.state) at) ≡ Some o → Joins c.steps v k o (after_turn c v (option_and_then (turn c.state) at)).steps
-stepped_at c v k o done None done_is line_is is = cc
-stepped_at c v k o done (Some p) done_is line_is is =
+stepped_at c v k o count None done_is line_is is = cc
+stepped_at c v k o count (Some p) done_is line_is is =
     let e : p.done + 1 ≡ k = ap (λ r. unwrap_or r 0 + 1) (sym done_is) ∙ sym line_is in
     turned c v k o (turn c.state p) (λ t h. turn_at-line c.state p p.left t h ∙ e) is
 
@@ -104,7 +104,7 @@ walk_from p m none few =
     }
 
 module _ (p : Place) (s : Script) (schedule : List ℕ) (there : Bool) (line : there ≡ has_line (slice_get s.sections p.vcpu) p.line) where
-  steps_shown : List ℕ
+  abbrev steps_shown : List ℕ
   steps_shown = shown_from p 1 (run s schedule).steps ++ flat_map (shown_reply p) (done_of (run s schedule).steps)
 
   -- there is no such line
