@@ -102,22 +102,3 @@ walk_from p m none few =
       few = omega (arith, few);
       shown = sym (ap (λ xs. shown_from p 1 (run m.script xs).steps) none);
     }
-
-module _ (p : Place) (s : Script) (schedule : List ℕ) (there : Bool) (line : there ≡ has_line (slice_get s.sections p.vcpu) p.line) where
-  abbrev steps_shown : List ℕ
-  steps_shown = shown_from p 1 (run s schedule).steps ++ flat_map (shown_reply p) (done_of (run s schedule).steps)
-
-  -- there is no such line
-  pub no_line : there ≡ false → no_line_text ≡ why_text p s schedule
-  no_line none = sym (ap (λ b. cond b steps_shown no_line_text) (sym line ∙ none))
-
-  -- the replies come behind the steps of a whole walk
-  pub all_shown : there ≡ true → (m : Standing) (steps : ℕ) (text new : List ℕ) (f : Final) (done : List DoneLine) → Replayed s schedule m → IsWalk p m steps text
-      → f ≡ final_of m.script m.schedule → done ≡ f.done → new ≡ text ++ flat_map (shown_reply p) done → new ≡ why_text p s schedule
-  all_shown some m steps text new f done replayed walk final done_is new_is =
-      let e : run m.script m.schedule ≡ run s schedule = ap (λ t. run t m.schedule) replayed.script ∙ ap (run s) replayed.schedule_is in
-      let ds : done ≡ done_of (run m.script m.schedule).steps = done_is ∙ ap (λ x. x.done) final in
-      new_is ∙ ap (λ t. t ++ flat_map (shown_reply p) done) walk.shown
-      ∙ ap (λ xs. shown_from p 1 (run m.script m.schedule).steps ++ flat_map (shown_reply p) xs) ds
-      ∙ ap (λ c. shown_from p 1 c.steps ++ flat_map (shown_reply p) (done_of c.steps)) e
-      ∙ sym (ap (λ b. cond b steps_shown no_line_text) (sym line ∙ some))
