@@ -1,25 +1,20 @@
 -- Laws of the steps that are shown of a line.
-use Rattle.std.proofs.Common.{◌≡◌, ℕ, ◌+◌, ◌^◌, ◌<◌, Bool, true, false, cond, List, [], ◌∷◌, ◌++◌, length, slice_get, Option, Some, None, refl, sym, ap, ◌∙◌, subst, arith, append_assoc, unwrap_or, flat_map}
+use Rattle.std.proofs.Common.{◌≡◌, ℕ, ◌+◌, ◌^◌, ◌<◌, List, [], ◌∷◌, ◌++◌, length, slice_get, Option, Some, None, refl, sym, ap, ◌∙◌, arith, append_assoc, unwrap_or}
 use Rattle.std.specs.Option.{option_map, option_and_then}
 use Rattle.std.proofs.lemmas.List.{length-append, append-nil}
 use Rattle.std.proofs.lemmas.List.Sums.{fold-append}
 use Rattle.argo_model.specs.declared.line.Line.{Line}
 use Rattle.argo_model.specs.declared.action.Action.{Action}
 use Rattle.argo_model.specs.declared.action.Outcome.{Outcome}
-use Rattle.argo_model.specs.declared.closing.DoneLine.{DoneLine}
-use Rattle.argo_model.specs.declared.closing.Final.{Final}
 use Rattle.argo_model.specs.Programs.Program.{Next, Do, Say, program}
 use Rattle.argo_model.specs.Rules.Act.{Effect}
 use Rattle.argo_model.specs.Rules.Shorts.{short_of}
 use Rattle.argo_model.specs.Rules.State.{State}
-use Rattle.argo_model.specs.Runs.Run.{Progress, Step, Course, Turn, start, run, step, step_of, after_turn, next_turn, turn, turn_at, turn_by, turn_to}
-use Rattle.argo_model.specs.Runs.Final.{done_of, final_of}
-use Rattle.argo_model.specs.Runs.Script.{Script}
+use Rattle.argo_model.specs.Runs.Run.{Progress, Step, Course, Turn, start, run, step, step_of, after_turn, turn, turn_at, turn_by, turn_to}
 use Rattle.argo_machine.specs.Machine.{Standing, OneStep}
 use Rattle.argo_check.specs.declared.words.Place.{Place}
-use Rattle.argo_check.specs.Moves.{Replayed}
 use Rattle.argo_check.specs.Walks.{IsWalk}
-use Rattle.argo_check.specs.Why.{has_line, shown_step, shown_from, shown_reply, no_line_text, why_text}
+use Rattle.argo_check.specs.Why.{shown_step, shown_from}
 
 -- one step more is shown behind the others
 shown-more : (p : Place) (n : ℕ) (xs : List Step) (t : Step)

@@ -1,11 +1,10 @@
 -- A second replay, which shows the steps of one line.
 use Rattle.std.specs.Prelude.{◌≡◌, ℕ, ◌+◌, ◌^◌, ◌<◌, List, ◌++◌, length, replicate}
-use Rattle.argo_model.specs.declared.action.Outcome.{Outcome}
 use Rattle.argo_model.specs.declared.closing.Run.{Run}
-use Rattle.argo_model.specs.Runs.Run.{Turn, run, next_turn, step_of}
+use Rattle.argo_model.specs.Runs.Run.{run}
 use Rattle.argo_machine.specs.Machine.{Standing}
 use Rattle.argo_check.specs.declared.words.Place.{Place}
-use Rattle.argo_check.specs.Why.{shown_step, shown_from}
+use Rattle.argo_check.specs.Why.{shown_from}
 
 -- each number of a schedule that begins so and goes on with this run makes a step
 pub record CanGo (m : Standing) (r : Run) : Type 0 where

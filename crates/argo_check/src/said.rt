@@ -81,12 +81,7 @@ pub(crate) fn tell_no<K: Sink>(alloc: Global, out: &mut K, line: u64) -> CheckSt
 }
 
 // The text for a right report.
-fn yes_text(
-    alloc: Global,
-    form: Form,
-    scripts: &Scripts,
-    runs: &[Run],
-) -> Result<Bytes, NoMemory>
+fn yes_text(alloc: Global, form: Form, scripts: &Scripts, runs: &[Run]) -> Result<Bytes, NoMemory>
     requires { IsComplete scripts.now (schedule_of runs.now) }
     ensures { IfOk result
         (λ text. text ≡ yes_text ++ further_text form scripts.now (schedule_of runs.now)) }

@@ -118,7 +118,13 @@ fn an_input_has_its_answer(rt: HostRuntime) -> Result<(), Fail> {
         ),
         ("why 0 0", SCRIPT, REPORT, b"yes\nno such line\n", 0),
         ("why 0 4", SCRIPT, REPORT, b"yes\nno such line\n", 0),
-        ("why 18446744073709551615 1", SCRIPT, REPORT, b"yes\nno such line\n", 0),
+        (
+            "why 18446744073709551615 1",
+            SCRIPT,
+            REPORT,
+            b"yes\nno such line\n",
+            0,
+        ),
         (
             "why 0 2",
             SCRIPT,

@@ -31,7 +31,9 @@ pub(crate) fn why_text(
     }
     let walk = walk_through(alloc, scripts, runs, place)?;
     let Walk {
-        machine, mut text, ..
+        machine,
+        mut text,
+        ..
     } = walk;
     let shown = machine.finish()?;
     push_replies(&mut text, alloc, shown.done.as_slice(), place)?;
@@ -140,12 +142,7 @@ struct Made {
 }
 
 // Adds the line of a step, where it is one of the line that is asked for.
-fn push_made(
-    text: &mut Bytes,
-    alloc: Global,
-    made: Made,
-    place: Place,
-) -> Result<(), NoMemory>
+fn push_made(text: &mut Bytes, alloc: Global, made: Made, place: Place) -> Result<(), NoMemory>
     ensures { OnOk result (text.new
         ≡ text.old ++ shown_step place made.at made.vcpu made.line made.short) }
 {
@@ -156,12 +153,7 @@ fn push_made(
 }
 
 // Adds the line of a step.
-fn push_step(
-    text: &mut Bytes,
-    alloc: Global,
-    at: u64,
-    short: Short,
-) -> Result<(), NoMemory>
+fn push_step(text: &mut Bytes, alloc: Global, at: u64, short: Short) -> Result<(), NoMemory>
     ensures { OnOk result (text.new ≡ text.old ++ step_line at short) }
 {
     let line = format!(in alloc; "step {at} {}.{}\n", short.tag, short.value)?;

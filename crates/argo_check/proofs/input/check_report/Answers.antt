@@ -23,7 +23,7 @@ returns-in-Ok-Right-clause-ends g c =
     let right : IsRight c.args.scripts.now c.args.report.now runs = rw c.in-Ok-Right.field-0-is at c.in-Ok-Right.ensures in
     let rose = Rose (g.K.Sink.faults c.args.out.now) (g.K.Sink.faults c.tell_yes.new.out) in
     let P : List Run → Type 0 = λ rs. Said (Just s.Yes (yes_text ++ further_text c.args.form c.args.scripts.now (schedule_of rs)))
-        (g.K.Sink.written c.args.out.now) (g.K.Sink.written c.tell_yes.new.out) rose c.tell_yes.result in
+    (g.K.Sink.written c.args.out.now) (g.K.Sink.written c.tell_yes.new.out) rose c.tell_yes.result in
     said_as (Just s.Yes (yes_text ++ further_text c.args.form c.args.scripts.now (schedule_of runs))) (IsAnswer c.args.form c.args.scripts.now c.args.report.now)
     (yes_due c.args.form c.args.scripts.now c.args.report.now runs right)
     (g.K.Sink.written c.args.out.now) (g.K.Sink.written c.tell_yes.new.out) rose c.tell_yes.result (subst P c.as_slice.ensures c.tell_yes.ensures.ends)

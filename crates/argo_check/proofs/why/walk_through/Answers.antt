@@ -1,5 +1,4 @@
 use Rattle.argo_check.proofs.ReplayLaws.{can_go, gone_on, all_replayed}
-use Rattle.argo_check.proofs.WhyLaws.{walk_from}
 use Rattle.argo_check.proofs.why.walk_through.Goals as goal
 
 pub make_run-requires-clause-can : goal.make_run-requires-clause-can

@@ -1,4 +1,4 @@
-use Rattle.std.proofs.Common.{◌≡◌, List, Some, sym, ap, ◌∙◌, subst}
+use Rattle.std.proofs.Common.{List, Some, sym, ap, ◌∙◌, subst}
 use Rattle.argo_model.specs.Runs.Final.{schedule_of}
 use Rattle.argo_model.specs.Runs.Run.{run}
 use Rattle.vcpu_machine.specs.Vcpu.{VcpuAt}
