@@ -9,6 +9,7 @@ summary N    the whole output for the words `gen N`, which need no script
 asm-line     a line of argo_asm, in a domain 1 of two pages; what it writes must run
 check        a script, a mark and a report
 answer       the whole output of argo_check for the block above
+answer why V K   the same with these words
 argo-line    what argo_asm writes of the line above, without its comments
 
 A row of a table that begins with a kind of fault and a line number, as | `range` (2) |, has a text with that fault in its second cell,
@@ -16,7 +17,7 @@ a line of the text in each pair of marks."""
 import re
 import subprocess
 
-BLOCK = re.compile(r"(?ms)^ *```([a-z-]*)(?: (\d+))? *\n(.*?)^ *```$")
+BLOCK = re.compile(r"(?ms)^ *```([a-z-]*)(?: ([a-z0-9 ]+?))? *\n(.*?)^ *```$")
 FAULT = re.compile(r"(?m)^\| `(\w+)` \((\d+)\) \| (.*) \|$")
 AROUND = "argo 1\ndomain 1 pages 2\nvcpu 1\n"
 
@@ -70,7 +71,7 @@ class Reader:
         elif kind == "check":
             self.script = text
         elif kind == "answer":
-            self.cases.append(Check(f"{self.name}:{line}", self.script, [], text, True))
+            self.cases.append(Check(f"{self.name}:{line}", self.script, (seed or "").split(), text, True))
         elif kind == "asm-line":
             self.script = self.assemble(AROUND + text)
             self.wrote = "".join(f"{it}\n" for it in self.script.splitlines()[3:] if not it.startswith("#"))

@@ -4,3 +4,5 @@ pub mod EndLaws
 pub mod ReplayLaws
 pub mod SaidLaws
 pub mod VerdictLaws
+pub mod WhyLaws
+pub mod WordLaws

@@ -15,6 +15,7 @@ use Rattle.argo_model.specs.Runs.Run.{Progress, Course, Turn, start, run, step, 
 use Rattle.argo_model.specs.Runs.Final.{schedule_of}
 use Rattle.argo_machine.specs.Machine.{Standing}
 use Rattle.argo_check.specs.Moves.{Goes, Stops, AllFinished, Replayed}
+use Rattle.argo_check.specs.Walks.{CanGo}
 
 -- each number of the schedule makes a step
 abbrev pub EachSteps : Script → List ℕ → Type 0
@@ -102,6 +103,16 @@ module _ (s : Script) (runs : List Run) (i : ℕ) (d : Run) (m : Standing) (belo
       let Q : Script → Type 0 = λ t. length (run t (schedule_of runs)).steps ≢ length (schedule_of runs) in
       (subst Q same (subst P e (stops rest))) complete.each_steps
 
+  -- a run of a complete schedule can be made
+  pub can_go : IsComplete s (schedule_of runs) → CanGo m (get_or runs i d)
+  can_go complete =
+      let rest = schedule_of (drop (i + 1) runs) in
+      let e : m.schedule ++ (run_numbers (get_or runs i d) ++ rest) ≡ schedule_of runs =
+      ap (λ xs. xs ++ (run_numbers (get_or runs i d) ++ rest)) before ∙ sym (schedule_at runs i d below) in
+      let P : List ℕ → Type 0 = λ xs. EachSteps m.script xs in
+      let Q : Script → Type 0 = λ t. EachSteps t (schedule_of runs) in
+      record { rest = rest; each = subst P (sym e) (subst Q (sym same) complete.each_steps) }
+
   -- one run more
   pub gone_on : (new : Standing) → Goes m (get_or runs i d) new → (new.script ≡ s) × (new.schedule ≡ schedule_of (take (i + 1) runs))
   gone_on new goes = (
@@ -122,6 +133,14 @@ module _ (s : Script) (runs : List Run) (i : ℕ) (m : Standing) (past : length 
       let Q : List ℕ → Type 0 = λ xs. IsTrue (list_all is_finished (run s xs).sections) in
       none (subst P (sym same) (subst Q (sym whole) complete.all_finished))
 
+module _ (s : Script) (runs : List Run) (i : ℕ) (m : Standing) (past : length runs ≤ i) (same : m.script ≡ s) (before : m.schedule ≡ schedule_of (take i runs)) where
+  -- the whole of a complete schedule was replayed
+  pub all_replayed : IsComplete s (schedule_of runs) → Replayed s (schedule_of runs) m
+  all_replayed complete =
+      let P : Script → Type 0 = λ t. IsTrue (list_all is_finished (run t m.schedule).sections) in
+      let Q : List ℕ → Type 0 = λ xs. IsTrue (list_all is_finished (run s xs).sections) in
+      replayed s runs i m past same before (subst P (sym same) (subst Q (sym (whole s runs i m past same before)) complete.all_finished))
+
 pub open_where : (b : Bool) → b ≢ false → IsTrue b
 open_where true h = refl
 open_where false h = absurd (h refl)
@@ -129,6 +148,13 @@ open_where false h = absurd (h refl)
 not_open : (b : Bool) → IsTrue (not b) → b ≡ false
 not_open true h = absurd (false≢true h)
 not_open false h = refl
+
+-- in a run that can be made a section is open before each of its steps
+pub open_in : (m : Standing) (r : Run) (t : Script) (p : List ℕ) (k : ℕ) → CanGo m r → t ≡ m.script → p ≡ m.schedule ++ replicate k r.vcpu → k < r.count
+    → IsTrue (is_open (run t p) r.vcpu)
+open_in m r t p k can same before below =
+    let P : Script → Type 0 = λ x. IsTrue (is_open (run x p) r.vcpu) in
+    subst P (sym same) (open_where _ (λ none. stops_in m.script m.schedule p r.vcpu k r.count before below none can.rest can.each))
 
 pub both : (x y : Bool) → IsTrue (x && y) → IsTrue x × IsTrue y
 both true true h = (refl, refl)

@@ -1,15 +1,15 @@
 -- Laws of how the writing of what is due ends.
-use Rattle.std.proofs.Common.{◌≡◌, ℕ, ◌≤◌, inl, inr, List, length, Option, Result, Ok, Err, refl, sym, subst}
+use Rattle.std.proofs.Common.{◌≡◌, ℕ, ◌≤◌, inl, inr, List, ◌++◌, length, Option, Result, Ok, Err, refl, sym, subst}
 use Rattle.argo_model.specs.declared.closing.Run.{Run}
+use Rattle.argo_model.specs.Runs.Final.{schedule_of}
 use Rattle.argo_model.specs.Runs.Script.{Script}
 use Rattle.script_text.specs.declared.kind.ScriptFault.{ScriptFault}
 use Rattle.script_text.specs.Scripts.{scripts_of}
 use Rattle.argo_check.specs.declared.words.Form.{Form}
-use Rattle.argo_check.specs.declared.words.Form.TheVariants.{Plain}
 use Rattle.argo_check.specs.declared.status.CheckStatus.{CheckStatus}
 use Rattle.argo_check.specs.declared.status.CheckStatus.TheVariants as s
 use Rattle.argo_check.specs.Answers.{yes_text, no_text, fault_text}
-use Rattle.argo_check.specs.Check.{IsAnswer, IsFault, IsAnswerFor, IsJudged, IsCheck, most_bytes}
+use Rattle.argo_check.specs.Check.{IsAnswer, IsFault, IsAnswerFor, IsJudged, IsCheck, most_bytes, further_text}
 use Rattle.argo_check.specs.Cut.{IsCut}
 use Rattle.argo_check.specs.Said.{Dues, Just, WroteAPart, WroteWhole, Said, Told}
 use Rattle.argo_check.specs.Verdicts.{IsRight, IsWrongAt}
@@ -50,8 +50,11 @@ pub fault_due : (f : ScriptFault) → IsFault f (s.Script f.line f.kind) (fault_
 fault_due f = (refl, refl)
 
 -- a right report
-pub yes_due : (form : Form) (script : Script) (report : List ℕ) (runs : List Run) → IsRight script report runs → IsAnswer form script report s.Yes yes_text
-yes_due Plain script report runs right = record { runs = runs; right = right; text_is = refl }
+pub yes_due : (form : Form) (script : Script) (report : List ℕ) (runs : List Run) → IsRight script report runs → (status : CheckStatus) (text : List ℕ)
+    → Just s.Yes (yes_text ++ further_text form script (schedule_of runs)) status text → IsAnswer form script report status text
+yes_due form script report runs right status text is =
+    let P : CheckStatus → Type 0 = λ st. IsAnswer form script report st text in
+    subst P (sym is.0) (record { runs = runs; right = right; text_is = is.1 })
 
 -- a wrong one
 pub no_due : (form : Form) (script : Script) (report : List ℕ) (line : ℕ) → IsWrongAt script report line → (status : CheckStatus) (text : List ℕ)

@@ -6,16 +6,18 @@ use Rattle.argo_model.specs.Runs.Final.{schedule_of}
 use Rattle.script_text.specs.declared.kind.ScriptFault.{ScriptFault}
 use Rattle.script_text.specs.Scripts.{scripts_of}
 use Rattle.argo_check.specs.declared.words.Form.{Form}
-use Rattle.argo_check.specs.declared.words.Form.TheVariants.{Plain}
+use Rattle.argo_check.specs.declared.words.Form.TheVariants.{Plain, Why}
 use Rattle.argo_check.specs.declared.status.CheckStatus.{CheckStatus}
 use Rattle.argo_check.specs.declared.status.CheckStatus.TheVariants.{Yes, No, Script as script_fault, Mark, Large}
 use Rattle.argo_check.specs.Answers.{large_text, mark_text, yes_text, no_text, fault_text}
 use Rattle.argo_check.specs.Cut.{IsCut, HasNoMark}
 use Rattle.argo_check.specs.Verdicts.{IsRight, IsWrongAt}
+use Rattle.argo_check.specs.Why.{why_text}
 
 -- what follows `yes`, by the form of the words
 abbrev pub further_text : Form → Script → List ℕ → List ℕ
 further_text Plain s schedule = []
+further_text (Why place) s schedule = why_text place s schedule
 
 -- a right report of a script, and what is due for it
 pub record IsYes (form : Form) (s : Script) (report text : List ℕ) : Type 0 where

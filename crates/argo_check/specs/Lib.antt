@@ -9,4 +9,6 @@ pub mod Moves
 pub mod Numbers
 pub mod Said
 pub mod Verdicts
+pub mod Walks
+pub mod Why
 pub mod Words

@@ -9,7 +9,7 @@ ghost use Rattle.argo_check.specs.Said.{Said, IsReadFault};
 
 use crate::CheckStatus;
 use crate::cut::cut;
-use crate::said::{tell, tell_fault, tell_no};
+use crate::said::{tell, tell_fault, tell_no, tell_yes};
 use crate::verdict::{Verdict, judge};
 use crate::words::Form;
 use argo_base::Bytes;
@@ -87,7 +87,7 @@ fn check_report<K: Sink>(
         (K.written out.new) (Rose (K.faults out.old) (K.faults out.new)) result }
 {
     match judge(alloc, scripts, report) {
-        Ok(Verdict::Right(_)) => tell(out, b"yes\n", CheckStatus::Yes),
+        Ok(Verdict::Right(runs)) => tell_yes(alloc, form, scripts, runs.as_slice(), out),
         Ok(Verdict::Wrong(line)) => tell_no(alloc, out, line),
         Err(_) => CheckStatus::NoMemory,
     }

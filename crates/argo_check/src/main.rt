@@ -17,6 +17,7 @@ mod status;
 #[cfg(test)]
 mod tests;
 mod verdict;
+mod why;
 mod words;
 
 use argo_outside::{StdSink, StdSource};

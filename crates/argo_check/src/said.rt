@@ -1,14 +1,20 @@
 //! The texts of the answers, and how they are written.
 
-ghost use Rattle.std.specs.Prelude.{◌≡◌, ◌≤◌, IfOk};
+ghost use Rattle.std.specs.Prelude.{◌≡◌, ◌≤◌, ◌++◌, IfOk};
 ghost use Rattle.std.specs.String.{string_bytes};
 ghost use Rattle.argo_outside.specs.Faults.{Rose};
-ghost use Rattle.argo_check.specs.declared.status.CheckStatus.TheVariants.{No};
-ghost use Rattle.argo_check.specs.Answers.{no_text, fault_text};
-ghost use Rattle.argo_check.specs.Check.{IsFault};
+ghost use Rattle.argo_model.specs.Runs.Run.{IsComplete};
+ghost use Rattle.argo_model.specs.Runs.Final.{schedule_of};
+ghost use Rattle.argo_check.specs.declared.status.CheckStatus.TheVariants.{Yes, No};
+ghost use Rattle.argo_check.specs.Answers.{yes_text, no_text, fault_text};
+ghost use Rattle.argo_check.specs.Check.{IsFault, further_text};
 ghost use Rattle.argo_check.specs.Said.{Just, Said, Told};
 
 use crate::CheckStatus;
+use crate::why::why_text;
+use crate::words::Form;
+use argo_base::{Bytes, NoMemory};
+use argo_model::{Run, Scripts};
 use argo_outside::{Sink, write_whole};
 use script_text::ScriptFault;
 use std::alloc::{AllocError, Global};
@@ -41,6 +47,27 @@ pub(crate) fn tell_fault<K: Sink>(alloc: Global, out: &mut K, fault: ScriptFault
     tell(out, text.as_bytes(), status)
 }
 
+/// Writes that a report is right, and what the words ask for beside that.
+pub(crate) fn tell_yes<K: Sink>(
+    alloc: Global,
+    form: Form,
+    scripts: &Scripts,
+    runs: &[Run],
+    out: &mut K,
+) -> CheckStatus
+    requires { IsComplete scripts.now (schedule_of runs.now) }
+    ensures count { K.faults out.old ≤ K.faults out.new }
+    ensures ends { Said
+        (Just Yes (yes_text ++ further_text form scripts.now (schedule_of runs.now)))
+        (K.written out.old) (K.written out.new) (Rose (K.faults out.old) (K.faults out.new))
+        result }
+{
+    match yes_text(alloc, form, scripts, runs) {
+        Ok(text) => tell(out, text.as_slice(), CheckStatus::Yes),
+        Err(_) => CheckStatus::NoMemory,
+    }
+}
+
 /// Writes that a report is wrong, and its first wrong line.
 pub(crate) fn tell_no<K: Sink>(alloc: Global, out: &mut K, line: u64) -> CheckStatus
     ensures count { K.faults out.old ≤ K.faults out.new }
@@ -51,6 +78,21 @@ pub(crate) fn tell_no<K: Sink>(alloc: Global, out: &mut K, line: u64) -> CheckSt
         Ok(text) => tell(out, text.as_bytes(), CheckStatus::No { line }),
         Err(_) => CheckStatus::NoMemory,
     }
+}
+
+// The text for a right report.
+fn yes_text(alloc: Global, form: Form, scripts: &Scripts, runs: &[Run]) -> Result<Bytes, NoMemory>
+    requires { IsComplete scripts.now (schedule_of runs.now) }
+    ensures { IfOk result
+        (λ text. text ≡ yes_text ++ further_text form scripts.now (schedule_of runs.now)) }
+{
+    let mut text = Bytes::copy_of(alloc, b"yes\n")?;
+    let Form::Why(place) = form else {
+        return Ok(text);
+    };
+    let why = why_text(alloc, scripts, runs, place)?;
+    text.append(why.as_slice())?;
+    Ok(text)
 }
 
 // The line of a fault.

@@ -102,6 +102,36 @@ fn each_part_and_each_change_of_a_report_is_found_at_its_line(rt: HostRuntime) -
 fn an_input_has_its_answer(rt: HostRuntime) -> Result<(), Fail> {
     for (words, script, behind, text, number) in [
         ("", SCRIPT, REPORT, b"yes\n".as_slice(), 0),
+        (
+            "why 0 2",
+            SCRIPT,
+            REPORT,
+            b"yes\nstep 3 1.4\nstep 4 1.4\nreply 0102030405060708\n".as_slice(),
+            0,
+        ),
+        (
+            "why 0 00000000000000000001",
+            SCRIPT,
+            REPORT,
+            b"yes\nstep 1 0.0\nstep 2 0.0\nreply ok\n".as_slice(),
+            0,
+        ),
+        ("why 0 0", SCRIPT, REPORT, b"yes\nno such line\n", 0),
+        ("why 0 4", SCRIPT, REPORT, b"yes\nno such line\n", 0),
+        (
+            "why 18446744073709551615 1",
+            SCRIPT,
+            REPORT,
+            b"yes\nno such line\n",
+            0,
+        ),
+        (
+            "why 0 2",
+            SCRIPT,
+            b"argo report 1\nschedule 0*4\n",
+            b"no line 2\n",
+            1,
+        ),
         ("", b"argo 1\nx\n", REPORT, b"script line 2: word\n", 5),
         ("", b"argo 1\r\n%%\r\n", REPORT, b"script line 2: word\n", 5),
         (
@@ -155,7 +185,16 @@ fn an_input_needs_a_mark_that_is_a_line(rt: HostRuntime) -> Result<(), Fail> {
 
 #[test]
 fn wrong_words_are_answered_by_the_usage(rt: HostRuntime) -> Result<(), Fail> {
-    for text in ["why 1 5", "yes"] {
+    for text in [
+        "why",
+        "why 1",
+        "why 1 +5",
+        "why 1 2 3",
+        "Why 1 2",
+        "why 18446744073709551616 1",
+        "why 1 000000000000000000001",
+        "yes",
+    ] {
         let words = words_of(rt.alloc(), text)?;
         let mut src = source(rt.alloc(), SCRIPT, &[])?;
         let mut out = sink(rt.alloc(), &[])?;

@@ -1,8 +1,9 @@
 -- Laws of the virtual CPUs that a machine keeps: each stands at its place in the run.
-use Rattle.std.proofs.Common.{◌≡◌, ◌≢◌, ◌↔◌, get_or, ℕ, zero, suc, ◌+◌, ◌-◌, ◌<◌, ◌≤◌, Bool, true, false, List, [], ◌∷◌, length, set, IsTrue, map, Some, slice_get, refl, sym, ap, ◌∙◌, subst, arith, ⊎_elim}
+use Rattle.std.proofs.Common.{◌≡◌, ◌↔◌, get_or, ℕ, zero, suc, ◌+◌, ◌<◌, ◌≤◌, Bool, true, false, List, [], ◌∷◌, length, set, IsTrue, map, Some, None, slice_get, refl, sym, ap, ◌∙◌, subst, arith, ⊎_elim}
 use Rattle.std.proofs.lemmas.Bool.{cases_lt}
 use Rattle.std.proofs.lemmas.Bool.{false≢true}
 use Rattle.std.proofs.lemmas.List.{length-drop, drop_all}
+use Rattle.std.proofs.lemmas.Option.{slice_get_past}
 use Rattle.std.proofs.lemmas.List.Sums.{sum_by-cons}
 use Rattle.std.specs.Option.{option_map}
 use Rattle.argo_model.specs.declared.line.Line.{Line}
@@ -135,6 +136,18 @@ none_open [] (p ∷ ps) v all none = absurd all
 none_open (x ∷ xs) [] v all none = absurd all
 none_open (x ∷ xs) (p ∷ ps) zero all none = absurd (omega arith)
 none_open (x ∷ xs) (p ∷ ps) (suc v) all none = none_open xs ps v all.1 (omega arith)
+
+-- how many lines of a section are done
+pub done_in : (xs : List VcpuAt) (ps : List Progress) (v : ℕ) (x : VcpuAt) → AllStand xs ps → v < length xs → x ≡ get_or xs v x
+    → Some x.done ≡ option_map (λ p. p.done) (slice_get ps v)
+done_in xs ps v x all inside read =
+    let st = stands_at xs ps v x all (slice_get-read xs v x inside read) in
+    sym (ap (option_map (λ p. p.done)) st.1 ∙ ap (λ n. Some n) st.2.done)
+
+pub done_past : (xs : List VcpuAt) (ps : List Progress) (v : ℕ) → AllStand xs ps → length xs ≤ v → None ≡ option_map (λ p. p.done) (slice_get ps v)
+done_past xs ps v all past =
+    let n = all_stand-length xs ps all in
+    sym (ap (option_map (λ p. p.done)) (slice_get_past ps v (omega (arith, n, past))))
 
 not_less : (x : VcpuAt) → has_lines (lines_left x) ≡ false → length x.part.lines ≤ x.done
 not_less x none = ⊎_elim (λ less. let n = length-drop x.done x.part.lines in absurd (false≢true (sym none ∙ some_left (lines_left x) (omega arith)))) (λ done. done) (cases_lt x.done (length x.part.lines))

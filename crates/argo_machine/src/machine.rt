@@ -1,6 +1,6 @@
 //! The machine and what it keeps of a run.
 
-ghost use Rattle.std.specs.Prelude.{◌≡◌, ◌<◌, ◌^◌, ◌↔◌, [], false, IfOk, OnErr, IsTrue};
+ghost use Rattle.std.specs.Prelude.{◌≡◌, ◌<◌, ◌^◌, ◌↔◌, [], false, IfOk, OnErr, IsTrue, option_map, slice_get};
 ghost use Rattle.std.specs.List.{list_all};
 ghost use Rattle.argo_model.specs.Runs.Run.{run, is_open, is_finished, IsComplete};
 ghost use Rattle.argo_model.specs.Runs.Final.{final_of};
@@ -69,6 +69,16 @@ impl<W: SerialWorld> Machine<W> {
             Some(vcpu) => vcpu.finished(),
             None => true,
         }
+    }
+
+    /// How many lines of a section are done, where the number is a section's.
+    pub fn done_lines(&self, v: u32) -> Option<u32>
+        ensures { result ≡ option_map (λ p. p.done)
+            (slice_get (run self.now.script self.now.schedule).sections v) }
+    {
+        let kept = &self.kept;
+        let vcpu = kept.vcpus.get(v as usize)?;
+        Some(vcpu.done_lines())
     }
 
     /// One step of a section that is not finished, and its outcome. Where memory runs out, the machine is as before.
