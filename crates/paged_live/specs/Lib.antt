@@ -1,0 +1,4 @@
+pub mod Homes
+pub mod Parts
+pub mod Store
+pub mod Ends
