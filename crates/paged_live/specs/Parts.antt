@@ -1,8 +1,10 @@
 -- What a live domain is made of, what the rules see of it, and what always holds of it.
 use Rattle.std.specs.Prelude.{◌≡◌, ℕ, ◌*◌, ◌<◌, Bool, List, length, map, Option, Some, option_map}
+use Rattle.std.specs.List.Sorted.{IsStrictlySortedBy}
+use Rattle.std.specs.Map.{keys_of}
 use Rattle.argo_base.specs.declared.ring_key.RingKey.{RingKey}
 use Rattle.argo_base.specs.Limits.{page_bytes}
-use Rattle.argo_base.specs.Match.{key_in}
+use Rattle.argo_base.specs.Match.{key_cmp, key_in}
 use Rattle.argo_model.specs.Rules.State.{Ring, Live}
 use Rattle.argo_model.specs.Rules.RingBytes.{PagedRing}
 use Rattle.guest_pages.specs.Pages.{page_at}
@@ -47,8 +49,9 @@ rings_of rows = map (λ e. (e.0, ring_of e.1)) rows
 abbrev pub seen : Parts → Live
 seen x = record { bytes = memory (store_of x); flag = x.flag; next_serial = x.next_serial; rings = rings_of x.rows }
 
--- a ring stands under its own key, and its serial is its own, and below the next
+-- the keys rise, a ring stands under its own key, and its serial is its own, and below the next
 pub record AreNamed (rows : Rows) (next : ℕ) : Type 0 where
+  pub rising : IsStrictlySortedBy key_cmp (keys_of rows)
   pub key : (k : RingKey) (h : Row Held) → held_at rows k ≡ Some h → key_in h.value.id ≡ k
   pub young : (k : RingKey) (h : Row Held) → held_at rows k ≡ Some h → h.serial < next
   pub differ : (k q : RingKey) (g h : Row Held) → held_at rows k ≡ Some g → held_at rows q ≡ Some h → g.serial ≡ h.serial → k ≡ q

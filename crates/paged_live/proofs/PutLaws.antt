@@ -1,0 +1,210 @@
+-- Laws of reads of a domain's pages, and of puts into them.
+use Rattle.std.proofs.Common.{◌≡◌, ◌≢◌, ℕ, zero, suc, ◌+◌, ◌-◌, ◌*◌, ◌/◌, ◌<◌, ◌≤◌, Bool, true, false, ◌==◌, cond, nat_lt, if◌then◌else◌, List, [], ◌∷◌, length, take, drop, slice_index, map, position, Option, Some, None, option_map, unwrap_or, ⊎_elim, refl, sym, ap, ◌∙◌, subst, arith, length-drop}
+use Rattle.std.specs.Prelude.{not, slice_set}
+use Rattle.std.specs.List.{prefix_len}
+use Rattle.std.proofs.lemmas.Bool.Decides.{nat_tests}
+use Rattle.std.proofs.lemmas.List.{length-set, get_or-set_same, get_or-set_other}
+use Rattle.std.proofs.lemmas.List.Sums.{prefix_len_is}
+use Rattle.std.proofs.lemmas.List.{drop-drop, drop-take, take-take}
+use Rattle.std.proofs.lemmas.Option.{same_Some}
+use Rattle.std.proofs.lemmas.Map.Made.{lookup-map_values, keys_of-map_values}
+use Rattle.std.proofs.lemmas.Map.{keys-set_value}
+use Rattle.std.specs.List.Sorted.{IsStrictlySortedBy}
+use Rattle.std.specs.Map.{lookup, set_value, keys_of}
+use Rattle.std.specs.BTreeMap.{is_at}
+use Rattle.argo_base.specs.declared.ring_key.RingKey.{RingKey}
+use Rattle.argo_base.specs.Match.{key_cmp}
+use Rattle.argo_base.specs.Splice.{splice}
+use Rattle.argo_model.specs.Rules.State.{Ring, Live, has_page}
+use Rattle.argo_model.specs.Rules.Puts.{after_put, put_into, byte_at, ring_after_put, clean_after, moves, touches, dirtied}
+use Rattle.argo_model.specs.Rules.RingBytes.{PagedRing, paged as paged_in}
+use Rattle.argo_model.specs.Rules.Act as acts
+use Rattle.argo_model.specs.Rules.Effects.{Change, after, leaving, answered}
+use Rattle.argo_model.specs.declared.action.Outcome.TheVariants.{Done, Bytes, Fault}
+use Rattle.guest_pages.specs.Pages.{page_at, with_written}
+use Rattle.guest_pages.specs.Rows.{numbers_of, row_bytes}
+use Rattle.ring_core.specs.Held.{Held, paged, Becomes}
+use Rattle.ring_core.specs.Puts.{put_in}
+use Rattle.ring_core.proofs.TestLaws.{same_number, other_number}
+use Rattle.ring_table.specs.Rows.{Held as Row, held, held_at}
+use Rattle.ring_table.proofs.BucketLaws.{key_total, key_exact}
+use Rattle.ring_table.proofs.EntryLaws.{same_entries}
+use Rattle.paged_live.specs.Homes.{home, home_at}
+use Rattle.paged_live.specs.Store.{Store, piece, page_of, memory, IsStore}
+use Rattle.paged_live.specs.Parts.{Rows, Parts, stood, ring_in, store_of, ring_of, rings_of, seen, AreNamed, IsParts, StandsStill}
+use Rattle.paged_live.proofs.PageLaws.{Differ, At, length-flat, page_in_flat}
+use Rattle.paged_live.proofs.StoreLaws.{same_key_or_not, are_pages, alone_is, lent_is, no_page, pages_differ, at_home, elsewhere, not_own, Put, put_store, put_alone_memory, put_memory, Wrote}
+use Rattle.paged_live.proofs.MoveLaws.{Apart}
+use Rattle.paged_live.proofs.RowLaws.{set_here, set_other}
+use Rattle.paged_live.proofs.PartsLaws.{Found, found_stood, ring_seen, paged_seen, with_ring, with_value_is, changed_wrote}
+
+-- ---- the memory's pages
+
+pub length-memory : (x : Parts) → IsParts x → length (seen x).bytes ≡ 4096 * length x.private
+length-memory x is = length-flat (page_of (store_of x)) (length x.private) (are_pages (store_of x) is.store)
+
+div_page : (n k : ℕ) → n ≡ 4096 * k → n / 4096 ≡ k
+div_page n k same = omega arith
+
+pub page_is_there : (x : Parts) → IsParts x → (page : ℕ) → has_page (seen x) page ≡ nat_lt page (length x.private)
+page_is_there x is page = ap (nat_lt page) (div_page (length (seen x).bytes) (length x.private) (length-memory x is))
+
+inside_is : (page count : ℕ) → page < count → nat_lt page count ≡ true
+inside_is page count below = grind (arith, nat_tests)
+
+outside_is : (page count : ℕ) → count ≤ page → nat_lt page count ≡ false
+outside_is page count past = grind (arith, nat_tests)
+
+pub part_of : (xs : List ℕ) (base off n : ℕ) → off + n ≤ 4096 → take n (drop off (take 4096 (drop base xs))) ≡ take n (drop (base + off) xs)
+part_of xs base off n fit =
+    let k : off + (4096 - off) ≡ 4096 = omega arith in
+    ap (λ m. take n (drop off (take m (drop base xs)))) (sym k)
+    ∙ ap (take n) (drop-take off (4096 - off) (drop base xs))
+    ∙ take-take n (4096 - off) (drop off (drop base xs)) (omega arith)
+    ∙ ap (take n) (drop-drop off base xs)
+
+pub memory_part : (x : Parts) → IsParts x → (page off n : ℕ) → page < length x.private → off + n ≤ 4096
+    → take n (drop (4096 * page + off) (seen x).bytes) ≡ take n (drop off (page_of (store_of x) page))
+memory_part x is page off n below fit =
+    sym (part_of (seen x).bytes (4096 * page) off n fit)
+    ∙ ap (λ p. take n (drop off p)) (page_in_flat (page_of (store_of x)) (length x.private) page (are_pages (store_of x) is.store) below)
+
+-- ---- which ring a put touches
+
+found_at : (n : ℕ) (len : ℕ) → n < len → cond (nat_lt n len) (Some n) None ≡ Some n
+found_at n len below = let e : nat_lt n len ≡ true = grind (arith, nat_tests) in ap (λ b. cond b (Some n) None) e
+
+found_none : (n : ℕ) (len : ℕ) → n ≡ len → cond (nat_lt n len) (Some n) None ≡ None
+found_none n len at = let e : nat_lt n len ≡ false = grind (arith, nat_tests) in ap (λ b. cond b (Some n) None) e
+
+at_place : (pages : List ℕ) (place page : ℕ) → Differ pages → place < length pages → slice_index pages place ≡ page → position (λ p. p == page) pages ≡ Some place
+at_place pages place page differ below at =
+    let n : prefix_len (λ p. not (p == page)) pages ≡ place =
+    prefix_len_is (λ p. not (p == page)) pages place 0 (omega (arith, below))
+    (λ k less. ap not (other_number (slice_index pages k) page (λ same. let e : k ≡ place = differ k place (omega (arith, less, below)) below (same ∙ sym at) in omega (arith, less, e))))
+    (λ _. ap not (same_number (slice_index pages place) page at)) in
+    ap (λ m. cond (nat_lt m (length pages)) (Some m) None) n ∙ found_at place (length pages) below
+
+at_none : (pages : List ℕ) (page : ℕ) → Apart pages page → position (λ p. p == page) pages ≡ None
+at_none pages page apart =
+    let n : prefix_len (λ p. not (p == page)) pages ≡ length pages =
+    prefix_len_is (λ p. not (p == page)) pages (length pages) 0 (omega arith)
+    (λ k less. ap not (other_number (slice_index pages k) page (apart k less)))
+    (λ past. absurd (omega (arith, past))) in
+    ap (λ m. cond (nat_lt m (length pages)) (Some m) None) n ∙ found_none (length pages) (length pages) refl
+
+-- a ring that has not the page stays
+put_apart : (memory : List ℕ) (page off : ℕ) (bytes : List ℕ) (r : Ring) → Apart r.pages page → after_put memory page off bytes r ≡ r
+put_apart memory page off bytes r apart =
+    ap (λ o. unwrap_or (option_map (λ at. ring_after_put (paged_in memory r) at bytes) (option_map (λ place. 4096 * place + off) o)) r) (at_none r.pages page apart)
+
+-- the ring that has it is written
+put_at : (memory : List ℕ) (page off place : ℕ) (bytes : List ℕ) (r : Ring) → Differ r.pages → place < length r.pages → slice_index r.pages place ≡ page
+    → after_put memory page off bytes r ≡ ring_after_put (paged_in memory r) (4096 * place + off) bytes
+put_at memory page off place bytes r differ below at =
+    ap (λ o. unwrap_or (option_map (λ at. ring_after_put (paged_in memory r) at bytes) (option_map (λ place. 4096 * place + off) o)) r) (at_place r.pages place page differ below at)
+
+-- ---- all rings after a put
+
+module _ {X : Type 0} (f : X → X) (es : List (RingKey × X)) (rising : IsStrictlySortedBy key_cmp (keys_of es)) where
+  abbrev changed : List (RingKey × X)
+  changed = map (λ e. (e.0, f e.1)) es
+
+  changed_rising : IsStrictlySortedBy key_cmp (keys_of changed)
+  changed_rising = subst (IsStrictlySortedBy key_cmp) (sym (keys_of-map_values f es)) rising
+
+  -- where each stays, all do
+  pub none_changed : ((q : RingKey) (x : X) → lookup (is_at (key_cmp q)) es ≡ Some x → f x ≡ x) → map (λ e. (e.0, f e.1)) es ≡ es
+  none_changed stay = same_entries key_total key_exact changed es changed_rising rising by where
+    by : (q : RingKey) → lookup (is_at (key_cmp q)) changed ≡ lookup (is_at (key_cmp q)) es
+    by q = lookup-map_values f (is_at (key_cmp q)) es ∙ at (lookup (is_at (key_cmp q)) es) refl where
+      at : (o : Option X) → lookup (is_at (key_cmp q)) es ≡ o → option_map f o ≡ o
+      at None found = refl
+      at (Some x) found = ap Some (stay q x found)
+
+  -- where all but one stay, that one is written in its place
+  pub one_changed : (key : RingKey) (r w : X) → lookup (is_at (key_cmp key)) es ≡ Some r → f r ≡ w
+      → ((q : RingKey) (x : X) → q ≢ key → lookup (is_at (key_cmp q)) es ≡ Some x → f x ≡ x) → map (λ e. (e.0, f e.1)) es ≡ set_value (is_at (key_cmp key)) es w
+  one_changed key r w here is stay =
+      same_entries key_total key_exact changed (set_value (is_at (key_cmp key)) es w) changed_rising
+      (subst (IsStrictlySortedBy key_cmp) (sym (keys-set_value (is_at (key_cmp key)) es w)) rising) by where
+        by : (q : RingKey) → lookup (is_at (key_cmp q)) changed ≡ lookup (is_at (key_cmp q)) (set_value (is_at (key_cmp key)) es w)
+        by q = lookup-map_values f (is_at (key_cmp q)) es ∙ ⊎_elim
+            (λ same. ap (λ k. option_map f (lookup (is_at (key_cmp k)) es)) same ∙ ap (option_map f) here ∙ ap Some is
+            ∙ sym (set_here es key r w here) ∙ ap (λ k. lookup (is_at (key_cmp k)) (set_value (is_at (key_cmp key)) es w)) (sym same))
+            (λ other. at other (lookup (is_at (key_cmp q)) es) refl ∙ sym (set_other es key q r w here other))
+            (same_key_or_not q key) where
+              at : q ≢ key → (o : Option X) → lookup (is_at (key_cmp q)) es ≡ o → option_map f o ≡ o
+              at other None found = refl
+              at other (Some x) found = ap Some (stay q x other found)
+
+-- a ring of the rules is one of the domain's
+pub record Shown (x : Parts) (q : RingKey) (r : Ring) : Type 0 where
+  pub row : Row Held
+  pub is : held_at x.rows q ≡ Some row
+  pub same : ring_of row ≡ r
+
+pub shown_at : (x : Parts) (q : RingKey) (r : Ring) → lookup (is_at (key_cmp q)) (rings_of x.rows) ≡ Some r → Shown x q r
+shown_at x q r found = by (held_at x.rows q) refl (sym (lookup-map_values ring_of (is_at (key_cmp q)) x.rows) ∙ found) where
+  by : (o : Option (Row Held)) → held_at x.rows q ≡ o → option_map ring_of o ≡ Some r → Shown x q r
+  by None is at = cc
+  by (Some h) is at = record { row = h; is = is; same = same_Some (ring_of h) r at }
+
+pub rings_rising : (x : Parts) → IsParts x → IsStrictlySortedBy key_cmp (keys_of (rings_of x.rows))
+rings_rising x is = subst (IsStrictlySortedBy key_cmp) (sym (keys_of-map_values ring_of x.rows)) is.named.rising
+
+-- where the page is there, and where it is not
+pub put_there : (live : Live) (page off : ℕ) (bytes : List ℕ) → has_page live page ≡ true → put_into live page off bytes ≡ after live (acts.put live page off bytes)
+put_there live page off bytes there = ap (λ t. after live (if t then leaving Done (put_into live page off bytes) else answered Fault)) (sym there)
+
+pub done_there : (live : Live) (page off : ℕ) (bytes : List ℕ) → has_page live page ≡ true → Done ≡ (acts.put live page off bytes).outcome
+done_there live page off bytes there = ap (λ t. (if t then leaving Done (put_into live page off bytes) else answered Fault).outcome) (sym there)
+
+pub stays_absent : (live : Live) (page off : ℕ) (bytes : List ℕ) → has_page live page ≡ false → live ≡ after live (acts.put live page off bytes)
+stays_absent live page off bytes absent = ap (λ t. after live (if t then leaving Done (put_into live page off bytes) else answered Fault)) (sym absent)
+
+pub fault_absent : (live : Live) (page off : ℕ) (bytes : List ℕ) → has_page live page ≡ false → Fault ≡ (acts.put live page off bytes).outcome
+fault_absent live page off bytes absent = ap (λ t. (if t then leaving Done (put_into live page off bytes) else answered Fault).outcome) (sym absent)
+
+-- ---- a put into a page that stands by itself
+
+module _ (x : Parts) (is : IsParts x) (page off : ℕ) (bytes : List ℕ) (fit : off + length bytes ≤ 4096) where
+  abbrev pub written : Parts
+  written = record x { private = with_written x.private page off bytes }
+
+  module _ (b : List ℕ) (at : page_at x.private page ≡ Some b) where
+    below : page < length x.private
+    below = is.store.inside page b at
+
+    step : Put (store_of x) (store_of written) page off bytes b
+    step =
+        record {
+          count = length-set x.private page (option_map (λ p. splice p off bytes) (page_at x.private page));
+          was = at;
+          now = get_or-set_same x.private page (option_map (λ p. splice p off bytes) (page_at x.private page)) None below ∙ ap (option_map (λ p. splice p off bytes)) at;
+          others = λ m apart. get_or-set_other x.private page m (option_map (λ p. splice p off bytes) (page_at x.private page)) None apart;
+          home = λ m. refl;
+          ring = λ k. refl;
+          fit = fit;
+        }
+
+    pub written_parts : IsParts written
+    written_parts =
+        record {
+          homes = is.homes ∙ sym step.count;
+          store = put_store (store_of x) (store_of written) page off bytes b is.store step;
+          named = is.named;
+        }
+
+    rings_stay : map (λ e. (e.0, after_put (seen x).bytes page off bytes e.1)) (rings_of x.rows) ≡ rings_of x.rows
+    rings_stay = none_changed (after_put (seen x).bytes page off bytes) (rings_of x.rows) (rings_rising x is) (λ q r found.
+        let s = shown_at x q r found in
+        let own = not_own (store_of x) is.store q (stood s.row) (ap (option_map stood) s.is) page b at in
+        put_apart (seen x).bytes page off bytes r (subst (λ (r : Ring). Apart r.pages page) s.same own))
+
+    pub written_seen : seen written ≡ after (seen x) (acts.put (seen x) page off bytes)
+    written_seen =
+        let there : has_page (seen x) page ≡ true = page_is_there x is page ∙ inside_is page (length x.private) below in
+        ap (λ bs. record (seen x) { bytes = bs }) (put_alone_memory (store_of x) (store_of written) page off bytes b is.store step)
+        ∙ ap (λ rs. record (seen x) { bytes = splice (seen x).bytes (4096 * page + off) bytes; rings = rs }) (sym rings_stay)
+        ∙ put_there (seen x) page off bytes there
