@@ -4,3 +4,6 @@ pub mod MoveLaws
 pub mod RowLaws
 pub mod PartsLaws
 pub mod PutLaws
+pub mod FreshLaws
+pub mod ActLaws
+pub mod SweepLaws

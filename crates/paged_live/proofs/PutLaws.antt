@@ -1,7 +1,8 @@
 -- Laws of reads of a domain's pages, and of puts into them.
-use Rattle.std.proofs.Common.{◌≡◌, ◌≢◌, ℕ, zero, suc, ◌+◌, ◌-◌, ◌*◌, ◌/◌, ◌<◌, ◌≤◌, Bool, true, false, ◌==◌, cond, nat_lt, if◌then◌else◌, List, [], ◌∷◌, length, take, drop, slice_index, map, position, Option, Some, None, option_map, unwrap_or, ⊎_elim, refl, sym, ap, ◌∙◌, subst, arith, length-drop}
+use Rattle.std.proofs.Common.{◌≡◌, ◌≢◌, ℕ, zero, suc, ◌+◌, ◌-◌, ◌*◌, ◌/◌, ◌<◌, ◌≤◌, Bool, true, false, ◌==◌, cond, nat_lt, if◌then◌else◌, List, [], ◌∷◌, length, take, drop, slice_index, slice_get, map, position, Option, Some, None, option_map, unwrap_or, ⊎_elim, refl, sym, ap, ◌∙◌, subst, arith, length-drop}
 use Rattle.std.specs.Prelude.{not, slice_set}
 use Rattle.std.specs.List.{prefix_len}
+use Rattle.std.proofs.lemmas.Bool.{cases_lt}
 use Rattle.std.proofs.lemmas.Bool.Decides.{nat_tests}
 use Rattle.std.proofs.lemmas.List.{length-set, get_or-set_same, get_or-set_other}
 use Rattle.std.proofs.lemmas.List.Sums.{prefix_len_is}
@@ -27,7 +28,7 @@ use Rattle.ring_core.specs.Held.{Held, paged, Becomes}
 use Rattle.ring_core.specs.Puts.{put_in}
 use Rattle.ring_core.proofs.TestLaws.{same_number, other_number}
 use Rattle.ring_table.specs.Rows.{Held as Row, held, held_at}
-use Rattle.ring_table.proofs.BucketLaws.{key_total, key_exact}
+use Rattle.ring_table.proofs.BucketLaws.{key_total, key_exact, key_is}
 use Rattle.ring_table.proofs.EntryLaws.{same_entries}
 use Rattle.paged_live.specs.Homes.{home, home_at}
 use Rattle.paged_live.specs.Store.{Store, piece, page_of, memory, IsStore}
@@ -35,7 +36,7 @@ use Rattle.paged_live.specs.Parts.{Rows, Parts, stood, ring_in, store_of, ring_o
 use Rattle.paged_live.proofs.PageLaws.{Differ, At, length-flat, page_in_flat}
 use Rattle.paged_live.proofs.StoreLaws.{same_key_or_not, are_pages, alone_is, lent_is, no_page, pages_differ, at_home, elsewhere, not_own, Put, put_store, put_alone_memory, put_memory, Wrote}
 use Rattle.paged_live.proofs.MoveLaws.{Apart}
-use Rattle.paged_live.proofs.RowLaws.{set_here, set_other}
+use Rattle.paged_live.proofs.RowLaws.{set_here, set_other, map-set_value}
 use Rattle.paged_live.proofs.PartsLaws.{Found, found_stood, ring_seen, paged_seen, with_ring, with_value_is, changed_wrote}
 
 -- ---- the memory's pages
@@ -208,3 +209,99 @@ module _ (x : Parts) (is : IsParts x) (page off : ℕ) (bytes : List ℕ) (fit :
         ap (λ bs. record (seen x) { bytes = bs }) (put_alone_memory (store_of x) (store_of written) page off bytes b is.store step)
         ∙ ap (λ rs. record (seen x) { bytes = splice (seen x).bytes (4096 * page + off) bytes; rings = rs }) (sym rings_stay)
         ∙ put_there (seen x) page off bytes there
+
+-- ---- a put into a page of a ring
+
+-- a put keeps the pages
+cleaned_pages : (r : Ring) (at n : ℕ) (k : Option ℕ) → (clean_after r at n k).pages ≡ r.pages
+cleaned_pages r at n (Some k) = refl
+cleaned_pages r at n None = by (touches r.len at n) where
+  by : (b : Bool) → (if b then dirtied r else r).pages ≡ r.pages
+  by true = refl
+  by false = refl
+
+pub put_pages : (p : PagedRing) (at : ℕ) (bytes : List ℕ) → (ring_after_put p at bytes).pages ≡ p.ring.pages
+put_pages p at bytes = by p.ring.clean where
+  by : (b : Bool) → (if b then clean_after p.ring at (length bytes) (moves p at bytes) else p.ring).pages ≡ p.ring.pages
+  by true = cleaned_pages p.ring at (length bytes) (moves p at bytes)
+  by false = refl
+
+module _ (x : Parts) (is : IsParts x) (page off place : ℕ) (bytes : List ℕ) (key : RingKey) (a b : Held) (f : Found x.rows key a)
+    (lent : home_at x.homes page ≡ Some (home key place)) where
+  pub lent_below : page < length x.private
+  lent_below = is.store.there page (home key place) lent
+
+  pub lent_at : (place < length (numbers_of a.row)) × (slice_index (numbers_of a.row) place ≡ page)
+  lent_at = at_home (store_of x) is.store key (paged f.serial a) (found_stood x.rows key a f) page (home key place) lent refl
+
+  module _ (fit : off + length bytes ≤ 4096) (still : StandsStill a b) (becomes : Becomes a b (λ p. put_in p (4096 * place + off) bytes)) where
+    put_rings : rings_of (with_ring x key b).rows ≡ map (λ e. (e.0, after_put (seen x).bytes page off bytes e.1)) (rings_of x.rows)
+    put_rings =
+        let p = paged f.serial a in
+        let found = found_stood x.rows key a f in
+        let own : after_put (seen x).bytes page off bytes p.ring ≡ (paged f.serial b).ring =
+        put_at (seen x).bytes page off place bytes p.ring (pages_differ (store_of x) is.store key p found) lent_at.0 lent_at.1
+        ∙ ap (λ q. ring_after_put q (4096 * place + off) bytes) (paged_seen x is key a f)
+        ∙ sym (ap (λ (q : PagedRing). q.ring) (becomes f.serial)) in
+        ap rings_of (with_value_is x.rows key a b f) ∙ map-set_value ring_of (is_at (key_cmp key)) x.rows (held f.serial b)
+        ∙ sym (one_changed (after_put (seen x).bytes page off bytes) (rings_of x.rows) (rings_rising x is) key p.ring (paged f.serial b).ring (ring_seen x.rows key a f) own (λ q r other at.
+        let s = shown_at x q r at in
+        let apart = elsewhere (store_of x) is.store q (stood s.row) (ap (option_map stood) s.is) page (home key place) lent (λ same. other (sym same)) in
+        put_apart (seen x).bytes page off bytes r (subst (λ (r : Ring). Apart r.pages page) s.same apart)))
+
+    pub put_seen : seen (with_ring x key b) ≡ after (seen x) (acts.put (seen x) page off bytes)
+    put_seen =
+        let there : has_page (seen x) page ≡ true = page_is_there x is page ∙ inside_is page (length x.private) lent_below in
+        ap (λ bs. record (seen x) { bytes = bs; rings = rings_of (with_ring x key b).rows })
+        (put_memory (store_of x) (store_of (with_ring x key b)) key (paged f.serial a) (paged f.serial b) is.store (changed_wrote x key a b f still)
+        page place off bytes lent fit (ap (λ (q : PagedRing). q.own) (becomes f.serial)))
+        ∙ ap (λ rs. record (seen x) { bytes = splice (seen x).bytes (4096 * page + off) bytes; rings = rs }) put_rings
+        ∙ put_there (seen x) page off bytes there
+
+-- ---- a page that is absent
+
+pub absent : (x : Parts) → IsParts x → (page : ℕ) → page_at x.private page ≡ None → home_at x.homes page ≡ None → has_page (seen x) page ≡ false
+absent x is page alone lent = page_is_there x is page ∙ outside_is page (length x.private) (⊎_elim (λ inside. absurd (is.store.somewhere page inside alone lent)) (λ past. past) (cases_lt page (length x.private)))
+
+-- ---- fetches
+
+pub fetch_there : (live : Live) (page off n : ℕ) → has_page live page ≡ true → acts.fetch live page off n ≡ Bytes (take n (drop (4096 * page + off) live.bytes))
+fetch_there live page off n there = ap (λ t. if t then Bytes (take n (drop (4096 * page + off) live.bytes)) else Fault) there
+
+pub fetch_absent : (live : Live) (page off n : ℕ) → has_page live page ≡ false → acts.fetch live page off n ≡ Fault
+fetch_absent live page off n none = ap (λ t. if t then Bytes (take n (drop (4096 * page + off) live.bytes)) else Fault) none
+
+-- out of a page that stands by itself
+pub fetch_alone : (x : Parts) → IsParts x → (page off n : ℕ) (b : List ℕ) → off + n ≤ 4096 → page_at x.private page ≡ Some b
+    → Bytes (take n (drop off b)) ≡ acts.fetch (seen x) page off n
+fetch_alone x is page off n b fit at =
+    let below : page < length x.private = is.store.inside page b at in
+    let there : has_page (seen x) page ≡ true = page_is_there x is page ∙ inside_is page (length x.private) below in
+    ap (λ p. Bytes (take n (drop off p))) (sym (alone_is (store_of x) page b at))
+    ∙ ap Bytes (sym (memory_part x is page off n below fit))
+    ∙ sym (fetch_there (seen x) page off n there)
+
+-- out of one that stands in a ring
+pub fetch_lent : (x : Parts) → IsParts x → (page off n place : ℕ) (key : RingKey) (a : Held) (f : Found x.rows key a) → off + n ≤ 4096 → home_at x.homes page ≡ Some (home key place)
+    → Bytes (take n (drop (4096 * place + off) (row_bytes a.row))) ≡ acts.fetch (seen x) page off n
+fetch_lent x is page off n place key a f fit lent =
+    let below : page < length x.private = is.store.there page (home key place) lent in
+    let there : has_page (seen x) page ≡ true = page_is_there x is page ∙ inside_is page (length x.private) below in
+    let none = no_page (store_of x) is.store page (home key place) lent in
+    ap Bytes (sym (part_of (row_bytes a.row) (4096 * place) off n fit))
+    ∙ ap (λ p. Bytes (take n (drop off p))) (sym (lent_is (store_of x) page (home key place) (paged f.serial a) none lent (found_stood x.rows key a f)))
+    ∙ ap Bytes (sym (memory_part x is page off n below fit))
+    ∙ sym (fetch_there (seen x) page off n there)
+
+-- ---- where a ring stands among those of the rules
+
+place_of : {X : Type 0} (es : List (RingKey × X)) (key : RingKey) (x : X) → lookup (is_at (key_cmp key)) es ≡ Some x → (i : ℕ) × (slice_get es i ≡ Some (key, x))
+place_of [] key x found = cc
+place_of {X} (e ∷ es) key x found = by (is_at (key_cmp key) e.0) refl found (place_of es key x) where
+  by : (b : Bool) → is_at (key_cmp key) e.0 ≡ b → cond b (Some e.1) (lookup (is_at (key_cmp key)) es) ≡ Some x
+      → (lookup (is_at (key_cmp key)) es ≡ Some x → (i : ℕ) × (slice_get es i ≡ Some (key, x))) → (i : ℕ) × (slice_get (e ∷ es) i ≡ Some (key, x))
+  by true at here rest = (zero, ap (λ k. Some (k, e.1)) (sym (key_is key e.0 at)) ∙ ap (λ v. Some (key, v)) (same_Some e.1 x here))
+  by false at here rest = let h = rest here in (suc h.0, h.1)
+
+pub ring_at : (x : Parts) (key : RingKey) (h : Row Held) → held_at x.rows key ≡ Some h → (i : ℕ) × (slice_get (rings_of x.rows) i ≡ Some (key, ring_of h))
+ring_at x key h found = place_of (rings_of x.rows) key (ring_of h) (lookup-map_values ring_of (is_at (key_cmp key)) x.rows ∙ ap (option_map ring_of) found)
