@@ -7,3 +7,7 @@ pub mod PutLaws
 pub mod FreshLaws
 pub mod ActLaws
 pub mod SweepLaws
+pub mod HomeLaws
+pub mod EndLaws
+pub mod JoinLaws
+pub mod FreeLaws
