@@ -2,3 +2,4 @@ pub mod Homes
 pub mod Parts
 pub mod Store
 pub mod Ends
+pub mod Registers
