@@ -11,3 +11,5 @@ pub mod HomeLaws
 pub mod EndLaws
 pub mod JoinLaws
 pub mod FreeLaws
+pub mod RegisterLaws
+pub mod NoticeLaws

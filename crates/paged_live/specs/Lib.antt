@@ -3,3 +3,4 @@ pub mod Parts
 pub mod Store
 pub mod Ends
 pub mod Registers
+pub mod Own

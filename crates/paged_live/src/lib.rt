@@ -10,6 +10,7 @@ mod ends;
 mod home;
 mod live;
 mod offers;
+mod own;
 mod puts;
 mod queries;
 mod registers;
