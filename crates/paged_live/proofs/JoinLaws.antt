@@ -146,9 +146,9 @@ module _ (x : Parts) (is : IsParts x) (key : RingKey) (serial next : ℕ) (v : H
         differ = back Differ (lends_differ x is ns j.can);
         page = back (λ ps. (i : ℕ) → i < length ps → page_at (without x.private ns) (slice_index ps i) ≡ None) (λ i below. without_at x.private ns i below);
         home = back (λ ps. (i : ℕ) → i < length ps → home_at (settled key 0 ns x.homes) (slice_index ps i) ≡ Some (home key i)) (λ i below.
-        let a = lends_alone x is ns j.can i below in
-        let inside = is.store.inside (slice_index ns i) a.bytes a.is in
-        settled_at key 0 ns x.homes i (lends_differ x is ns j.can) below (omega (arith, inside, is.homes)) ∙ ap (λ m. Some (home key m)) (omega arith));
+            let a = lends_alone x is ns j.can i below in
+            let inside = is.store.inside (slice_index ns i) a.bytes a.is in
+            settled_at key 0 ns x.homes i (lends_differ x is ns j.can) below (omega (arith, inside, is.homes)) ∙ ap (λ m. Some (home key m)) (omega arith));
         other_page = back (λ ps. (n : ℕ) → Apart ps n → page_at (without x.private ns) n ≡ page_at x.private n) (λ n apart. without_other x.private ns n apart);
         other_home = back (λ ps. (n : ℕ) → Apart ps n → home_at (settled key 0 ns x.homes) n ≡ home_at x.homes n) (λ n apart. settled_other key 0 ns x.homes n apart);
         sized = j.sized ∙ ap (λ n. 4096 * n) (sym (length-map v.row (λ (p : ℕ × List ℕ). p.0)));
@@ -176,23 +176,23 @@ module _ (x : Parts) (is : IsParts x) (key : RingKey) (serial next : ℕ) (v : H
         named = record {
           rising = sorted-insert key_total key (held serial v) x.rows is.named.rising;
           key = λ k h at. ⊎_elim
-          (λ o. ap (λ (r : Row Held). key_in r.value.id) o.1 ∙ j.named ∙ sym o.0)
-          (λ o. is.named.key k h o.1)
-          (which k h at);
+              (λ o. ap (λ (r : Row Held). key_in r.value.id) o.1 ∙ j.named ∙ sym o.0)
+              (λ o. is.named.key k h o.1)
+              (which k h at);
           young = λ k h at. ⊎_elim
-          (λ o. subst (λ n. n < next) (sym (serial_of h o.1)) j.young)
-          (λ o. let low = is.named.young k h o.1 in let later = j.later in omega arith)
-          (which k h at);
+              (λ o. subst (λ n. n < next) (sym (serial_of h o.1)) j.young)
+              (λ o. let low = is.named.young k h o.1 in let later = j.later in omega arith)
+              (which k h at);
           differ = λ k p g h at_k at_p same. ⊎_elim
-          (λ o. ⊎_elim
-          (λ u. o.0 ∙ sym u.0)
-          (λ u. absurd (j.own p h u.1 (sym same ∙ serial_of g o.1)))
-          (which p h at_p))
-          (λ o. ⊎_elim
-          (λ u. absurd (j.own k g o.1 (same ∙ serial_of h u.1)))
-          (λ u. is.named.differ k p g h o.1 u.1 same)
-          (which p h at_p))
-          (which k g at_k);
+              (λ o. ⊎_elim
+              (λ u. o.0 ∙ sym u.0)
+              (λ u. absurd (j.own p h u.1 (sym same ∙ serial_of g o.1)))
+              (which p h at_p))
+              (λ o. ⊎_elim
+              (λ u. absurd (j.own k g o.1 (same ∙ serial_of h u.1)))
+              (λ u. is.named.differ k p g h o.1 u.1 same)
+              (which p h at_p))
+              (which k g at_k);
         };
       }
 

@@ -13,3 +13,5 @@ pub mod JoinLaws
 pub mod FreeLaws
 pub mod RegisterLaws
 pub mod NoticeLaws
+pub mod FinalLaws
+pub mod OwnLaws

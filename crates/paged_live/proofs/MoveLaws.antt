@@ -54,29 +54,29 @@ module _ (s t : Store) (key : RingKey) (p : PagedRing) (st : IsStore s) (w : Ret
   returned_store =
       record {
         whole = λ n b is. ⊎_elim
-        (λ (a : At p.ring.pages n). ap length (same_Some b (piece a.place p.own) (sym is ∙ back_page n a))
-        ∙ length-piece a.place p.own (length p.ring.pages) (st.sized key p w.was) a.below)
-        (λ none. st.whole n b (sym (w.other_page n none) ∙ is))
-        (at_or_not p.ring.pages n);
+            (λ (a : At p.ring.pages n). ap length (same_Some b (piece a.place p.own) (sym is ∙ back_page n a))
+            ∙ length-piece a.place p.own (length p.ring.pages) (st.sized key p w.was) a.below)
+            (λ none. st.whole n b (sym (w.other_page n none) ∙ is))
+            (at_or_not p.ring.pages n);
         inside = λ n b is. subst (λ c. n < c) (sym w.count) (⊎_elim
-        (λ (a : At p.ring.pages n). subst (λ m. m < s.count) a.is (own_page s st key p w.was a.place a.below).0)
-        (λ none. st.inside n b (sym (w.other_page n none) ∙ is))
-        (at_or_not p.ring.pages n));
+            (λ (a : At p.ring.pages n). subst (λ m. m < s.count) a.is (own_page s st key p w.was a.place a.below).0)
+            (λ none. st.inside n b (sym (w.other_page n none) ∙ is))
+            (at_or_not p.ring.pages n));
         apart = λ n b is. ⊎_elim
-        (λ (a : At p.ring.pages n). back_home n a)
-        (λ none. w.other_home n none ∙ st.apart n b (sym (w.other_page n none) ∙ is))
-        (at_or_not p.ring.pages n);
+            (λ (a : At p.ring.pages n). back_home n a)
+            (λ none. w.other_home n none ∙ st.apart n b (sym (w.other_page n none) ∙ is))
+            (at_or_not p.ring.pages n);
         somewhere = λ n below page home. ⊎_elim
-        (λ (a : At p.ring.pages n). none-some (piece a.place p.own) (sym page ∙ back_page n a))
-        (λ none. st.somewhere n (subst (λ c. n < c) w.count below) (sym (w.other_page n none) ∙ page) (sym (w.other_home n none) ∙ home))
-        (at_or_not p.ring.pages n);
+            (λ (a : At p.ring.pages n). none-some (piece a.place p.own) (sym page ∙ back_page n a))
+            (λ none. st.somewhere n (subst (λ c. n < c) w.count below) (sym (w.other_page n none) ∙ page) (sym (w.other_home n none) ∙ home))
+            (at_or_not p.ring.pages n);
         there = λ n h is. subst (λ c. n < c) (sym w.count) (st.there n h (sym (w.other_home n (had_home n h is)) ∙ is));
         lies = λ n h is. let at = st.lies n h (sym (w.other_home n (had_home n h is)) ∙ is) in
-        record { found = at.found; ring = w.others h.key (home_apart n h is) ∙ at.ring; below = at.below; at = at.at };
+            record { found = at.found; ring = w.others h.key (home_apart n h is) ∙ at.ring; below = at.below; at = at.at };
         known = λ k r is i below.
-        let apart = found_apart k r is in
-        let old = sym (w.others k apart) ∙ is in
-        w.other_home (slice_index r.ring.pages i) (other_ring k r old apart i below) ∙ st.known k r old i below;
+            let apart = found_apart k r is in
+            let old = sym (w.others k apart) ∙ is in
+            w.other_home (slice_index r.ring.pages i) (other_ring k r old apart i below) ∙ st.known k r old i below;
         sized = λ k r is. st.sized k r (sym (w.others k (found_apart k r is)) ∙ is);
       }
 
@@ -181,13 +181,13 @@ module _ (s t : Store) (key : RingKey) (q : PagedRing) (st : IsStore s) (w : Joi
         inside = λ n b is. subst (λ c. n < c) (sym w.count) (st.inside n b (sym (w.other_page n (page_apart n b is)) ∙ is));
         apart = λ n b is. let none = page_apart n b is in w.other_home n none ∙ st.apart n b (sym (w.other_page n none) ∙ is);
         somewhere = λ n below page home. ⊎_elim
-        (λ (a : At q.ring.pages n). none-some _ (sym home ∙ lent_home n a))
-        (λ none. st.somewhere n (subst (λ c. n < c) w.count below) (sym (w.other_page n none) ∙ page) (sym (w.other_home n none) ∙ home))
-        (at_or_not q.ring.pages n);
+            (λ (a : At q.ring.pages n). none-some _ (sym home ∙ lent_home n a))
+            (λ none. st.somewhere n (subst (λ c. n < c) w.count below) (sym (w.other_page n none) ∙ page) (sym (w.other_home n none) ∙ home))
+            (at_or_not q.ring.pages n);
         there = λ n h is. subst (λ c. n < c) (sym w.count) (⊎_elim
-        (λ (a : At q.ring.pages n). let f = was_alone n a in st.inside n f.bytes f.is)
-        (λ none. st.there n h (sym (w.other_home n none) ∙ is))
-        (at_or_not q.ring.pages n));
+            (λ (a : At q.ring.pages n). let f = was_alone n a in st.inside n f.bytes f.is)
+            (λ none. st.there n h (sym (w.other_home n none) ∙ is))
+            (at_or_not q.ring.pages n));
         lies = joined_lies;
         known = joined_known;
         sized = joined_sized;

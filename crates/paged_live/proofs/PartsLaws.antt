@@ -106,9 +106,9 @@ changed_parts x is key a b f still =
         key = λ q h at. (entry_was x key a b f q h at still is).0;
         young = λ q h at. let old = (entry_was x key a b f q h at still is).1 h.serial refl in is.named.young q (held h.serial old.0) old.1;
         differ = λ k q g h at_k at_q same.
-        let old_k = (entry_was x key a b f k g at_k still is).1 g.serial refl in
-        let old_q = (entry_was x key a b f q h at_q still is).1 h.serial refl in
-        is.named.differ k q (held g.serial old_k.0) (held h.serial old_q.0) old_k.1 old_q.1 same;
+            let old_k = (entry_was x key a b f k g at_k still is).1 g.serial refl in
+            let old_q = (entry_was x key a b f q h at_q still is).1 h.serial refl in
+            is.named.differ k q (held g.serial old_k.0) (held h.serial old_q.0) old_k.1 old_q.1 same;
       };
     }
 
@@ -162,9 +162,6 @@ unchanged_seen x is key a b f still becomes =
 
 abbrev pub seen_entry : RingKey × Row Held → RingKey × Ring
 seen_entry e = (e.0, ring_of e.1)
-
-
-
 
 at_key_seen : (rows : Rows) (key : RingKey) → at_key (rings_of rows) key ≡ option_map seen_entry (at_key rows key)
 at_key_seen rows key = ap (option_map (λ (r : Ring). (key, r))) (lookup-map_values ring_of (is_at (key_cmp key)) rows) ∙ by (held_at rows key) where

@@ -126,8 +126,8 @@ module _ (x : Parts) (is : IsParts x) (key : RingKey) (a v : Held) (f : Found x.
           young = is.named.young key (held f.serial a) f.is;
           later = omega arith;
           own = λ q h at same.
-          let other : q ≢ key = λ e. none-some h (sym back_none ∙ ap (held_at back.rows) (sym e) ∙ at) in
-          other (is.named.differ q key h (held f.serial a) (sym (remove_other x.rows key q is.named.rising other) ∙ at) f.is same);
+              let other : q ≢ key = λ e. none-some h (sym back_none ∙ ap (held_at back.rows) (sym e) ∙ at) in
+              other (is.named.differ q key h (held f.serial a) (sym (remove_other x.rows key q is.named.rising other) ∙ at) f.is same);
         }
 
     is_moved : moved ≡ joined back key f.serial x.next_serial v ns

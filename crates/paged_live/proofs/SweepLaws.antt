@@ -53,7 +53,6 @@ module _ {A : Type 0} where
     by true h = later y x (filter test ys) h
     by false h = h
 
-
 abbrev is_less : Entry → Entry → Bool
 is_less a b = nat_lt a.1.serial b.1.serial
 
@@ -111,8 +110,8 @@ next_ring_is after rings e is = by (filter (above after) rings) refl is where
         stands = in_all.0;
         above = in_all.1;
         least = λ i x found passes.
-        let kept = stands_kept (above after) rings x i found passes in
-        subst (λ (y : Entry). y.1.serial ≤ x.1.serial) here (among b kept.0 x (ap (λ xs. slice_get xs kept.0) (sym same) ∙ kept.1));
+            let kept = stands_kept (above after) rings x i found passes in
+            subst (λ (y : Entry). y.1.serial ≤ x.1.serial) here (among b kept.0 x (ap (λ xs. slice_get xs kept.0) (sym same) ∙ kept.1));
       } where
         among : IsLeast k ks (best_of is_less k ks) → (j : ℕ) (x : Entry) → slice_get (k ∷ ks) j ≡ Some x → (best_of is_less k ks).1.serial ≤ x.1.serial
         among b zero x h = subst (λ (y : Entry). (best_of is_less k ks).1.serial ≤ y.1.serial) (same_Some k x h) b.first

@@ -4,3 +4,4 @@ pub mod Store
 pub mod Ends
 pub mod Registers
 pub mod Own
+pub mod Finals

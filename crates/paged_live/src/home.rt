@@ -38,7 +38,14 @@ pub(crate) fn settle_row(homes: &mut [Option<Home>], key: RingKey, row: &PageRow
     ensures { homes.new ≡ homes.settled key 0 (numbers_of row.now) homes.old }
 {
     for place in 0..row.count() {
-        set(homes, row.number(place), Some(Home { key, place: place as u32 }));
+        set(
+            homes,
+            row.number(place),
+            Some(Home {
+                key,
+                place: place as u32,
+            }),
+        );
     }
 }
 

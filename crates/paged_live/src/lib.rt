@@ -7,6 +7,7 @@
 
 mod change;
 mod ends;
+mod finals;
 mod home;
 mod live;
 mod offers;
