@@ -15,3 +15,4 @@ pub mod RegisterLaws
 pub mod NoticeLaws
 pub mod FinalLaws
 pub mod OwnLaws
+pub mod LoopLaws

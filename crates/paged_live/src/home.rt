@@ -21,28 +21,28 @@ pub(crate) fn home_at(homes: &[Option<Home>], page: u64) -> Option<Home>
 }
 
 /// The pages of these numbers stand in the ring of the key.
-pub(crate) fn settle(homes: &mut [Option<Home>], key: RingKey, numbers: &[u64])
+pub(crate) fn settle(homes: &mut [Option<Home>], key: &RingKey, numbers: &[u64])
     requires { length numbers.now < 2 ^ 32 }
-    ensures { homes.new ≡ homes.settled key 0 numbers.now homes.old }
+    ensures { homes.new ≡ homes.settled key.now 0 numbers.now homes.old }
 {
     let mut place = 0;
     for number in numbers {
-        set(homes, *number, Some(Home { key, place }));
+        set(homes, *number, Some(Home { key: *key, place }));
         place += 1;
     }
 }
 
 /// The pages of a row stand in the ring of the key.
-pub(crate) fn settle_row(homes: &mut [Option<Home>], key: RingKey, row: &PageRow)
+pub(crate) fn settle_row(homes: &mut [Option<Home>], key: &RingKey, row: &PageRow)
     requires { length row.now < 2 ^ 32 }
-    ensures { homes.new ≡ homes.settled key 0 (numbers_of row.now) homes.old }
+    ensures { homes.new ≡ homes.settled key.now 0 (numbers_of row.now) homes.old }
 {
     for place in 0..row.count() {
         set(
             homes,
             row.number(place),
             Some(Home {
-                key,
+                key: *key,
                 place: place as u32,
             }),
         );

@@ -57,12 +57,12 @@ impl Live {
             return Ok(Change::quiet(alloc, Outcome::Refused(Errno::Exist)));
         }
         if stands {
-            return self.register_anew(alloc, r.key, r.len, r.pages.as_slice());
+            return self.register_anew(alloc, &r.key, r.len, r.pages.as_slice());
         }
         if self.rings.count() >= MOST_ROWS {
             return Ok(Change::quiet(alloc, Outcome::Refused(Errno::NoSpc)));
         }
-        let outcome = self.register_new(alloc, r.key, r.len, r.pages.as_slice())?;
+        let outcome = self.register_new(alloc, &r.key, r.len, r.pages.as_slice())?;
         Ok(Change::quiet(alloc, outcome))
     }
 
@@ -70,17 +70,17 @@ impl Live {
     fn register_new(
         &mut self,
         alloc: Global,
-        key: RingKey,
+        key: &RingKey,
         len: u32,
         pages: &[u64],
     ) -> Result<Outcome, NoMemory>
         requires legal { IsTrue (is_legal len) }
         requires counted { length pages.now ≡ page_count len }
         requires young { self.old.next_serial < 2 ^ 63 }
-        requires none { rules.own_ring self.old key ≡ None }
-        ensures outcome { IfOk result (λ o. o ≡ (new_if_free self.old key len pages.now).outcome) }
+        requires none { rules.own_ring self.old key.now ≡ None }
+        ensures outcome { IfOk result (λ o. o ≡ (new_if_free self.old key.now len pages.now).outcome) }
         ensures left { OnOk result
-            (self.new ≡ after self.old (new_if_free self.old key len pages.now)) }
+            (self.new ≡ after self.old (new_if_free self.old key.now len pages.now)) }
         ensures err { OnErr result (self.new ≡ self.old) }
     {
         let row = match self.private.lend(pages) {
@@ -90,7 +90,7 @@ impl Live {
         };
         let word = tx_word(&row);
         let ring = ring_on(alloc, key, len, row);
-        if let Err(ring) = insert(&mut self.rings, key, self.next_serial, ring) {
+        if let Err(ring) = insert(&mut self.rings, *key, self.next_serial, ring) {
             self.private.give_back(unstarted(ring, word));
             return Err(NoMemory);
         }
@@ -103,21 +103,21 @@ impl Live {
     fn register_anew(
         &mut self,
         alloc: Global,
-        key: RingKey,
+        key: &RingKey,
         len: u32,
         pages: &[u64],
     ) -> Result<Change, NoMemory>
         requires legal { IsTrue (is_legal len) }
         requires counted { length pages.now ≡ page_count len }
         ensures outcome { IfOk result
-            (λ c. c.outcome ≡ (anew_if_free self.old key len pages.now).outcome) }
+            (λ c. c.outcome ≡ (anew_if_free self.old key.now len pages.now).outcome) }
         ensures signals { IfOk result
-            (λ c. c.signals.items ≡ (anew_if_free self.old key len pages.now).signals) }
+            (λ c. c.signals.items ≡ (anew_if_free self.old key.now len pages.now).signals) }
         ensures left { OnOk result
-            (self.new ≡ after self.old (anew_if_free self.old key len pages.now)) }
+            (self.new ≡ after self.old (anew_if_free self.old key.now len pages.now)) }
         ensures err { OnErr result (self.new ≡ self.old) }
     {
-        let Some(ring) = self.rings.find_exact_mut(key) else {
+        let Some(ring) = self.rings.find_exact_mut(*key) else {
             return Ok(Change::quiet(alloc, Outcome::Done));
         };
         if stands_so(ring, len, pages) {
@@ -146,11 +146,11 @@ impl Live {
 }
 
 // A new ring on these pages. A domain is not told its own id, so the ring's name has none.
-fn ring_on(alloc: Global, key: RingKey, len: u32, row: PageRow) -> Ring
+fn ring_on(alloc: Global, key: &RingKey, len: u32, row: PageRow) -> Ring
     requires legal { IsTrue (is_legal len) }
     requires counted { length row ≡ page_count len }
     ensures new { (serial : ℕ) → paged serial result ≡ ring_on serial len row }
-    ensures key { key_in result.id ≡ key }
+    ensures key { key_in result.id ≡ key.now }
     ensures sized { length (row_bytes result.row) ≡ page_bytes * length result.row }
 {
     let id = RingId {
