@@ -1,5 +1,10 @@
 -- Laws of acts on one ring, which keep its pages.
-use Rattle.std.proofs.Common.{◌≡◌, ℕ, ◌*◌, Bool, true, false, if◌then◌else◌, List, length, Option, Some, None, refl, sym, ap, ◌∙◌}
+use Rattle.std.proofs.Common.{◌≡◌, ℕ, ◌+◌, ◌*◌, ◌<◌, ◌≤◌, min, max, Bool, true, false, ◌&&◌, ◌||◌, ◌==◌, if◌then◌else◌, List, [], length, Option, Some, None, ◌⊎◌, inl, inr, refl, sym, ap, ◌∙◌, arith}
+use Rattle.std.proofs.lemmas.Bool.{cases_lt}
+use Rattle.std.proofs.lemmas.Bool.Decides.{nat_tests}
+use Rattle.argo_base.specs.Layout.{u32_at}
+use Rattle.argo_base.proofs.SpliceLaws.{splice-nil}
+use Rattle.argo_model.specs.Rules.Puts.{meets, touches, moves, taken_by, clean_after, dirtied, ring_after_put}
 use Rattle.std.specs.List.{All}
 use Rattle.argo_base.specs.declared.errno.Errno.TheVariants.{MsgSize, Busy, Again, Fault}
 use Rattle.argo_base.specs.Notices.{is_busy}
@@ -9,7 +14,7 @@ use Rattle.argo_model.specs.declared.action.Load.TheVariants.{Body, Faulted, Ref
 use Rattle.argo_model.specs.declared.action.Outcome.TheVariants.{Refused as IsRefused}
 use Rattle.argo_model.specs.Rules.Deliver.{Offer, offer, offer_load, if_it_fits, wait_for_room, with_notice, accepted, message_of}
 use Rattle.argo_model.specs.Rules.Effects.{Change, after, refuse_if, refused, leaving}
-use Rattle.argo_model.specs.Rules.RingBytes.{PagedRing, free}
+use Rattle.argo_model.specs.Rules.RingBytes.{PagedRing, free, rx_word}
 use Rattle.guest_pages.specs.Rows.{numbers_of, row_bytes}
 use Rattle.guest_pages.proofs.FlatLaws.{length-row_bytes}
 use Rattle.ring_core.specs.Held.{Held, paged, Becomes}
@@ -48,3 +53,32 @@ load_pages p owner o (Body bytes) =
 
 pub offer_pages : (owner : ℕ) (o : Offer) (p : PagedRing) → (after p (offer p owner o)).ring.pages ≡ p.ring.pages
 offer_pages owner o p = load_pages p owner o o.load
+
+-- ---- a put of nothing
+
+no_meeting : (at low high : ℕ) → meets at (at + 0) low high ≡ false
+no_meeting at low high = by (cases_lt (max at low) (min (at + 0) high)) where
+  by : (max at low < min (at + 0) high) ⊎ (min (at + 0) high ≤ max at low) → meets at (at + 0) low high ≡ false
+  by (inl less) = absurd (omega arith)
+  by (inr more) = grind (arith, nat_tests)
+
+nothing_touched : (len at : ℕ) → touches len at 0 ≡ false
+nothing_touched len at = ap (λ b. b || meets at (at + 0) 64 (64 + len)) (no_meeting at 0 8) ∙ no_meeting at 64 (64 + len)
+
+nothing_moved : (b c : Bool) (r : Option ℕ) → (if b && c && false then r else None) ≡ None
+nothing_moved true true r = refl
+nothing_moved true false r = refl
+nothing_moved false c r = refl
+
+pub put_nothing : (p : PagedRing) (at : ℕ) → put_in p at [] ≡ p
+put_nothing p at =
+    ap (λ own. record { ring = ring_after_put p at []; own = own }) (splice-nil p.own at) ∙ ap (λ r. record p { ring = r }) (by p.ring.clean) where
+      still : clean_after p.ring at 0 None ≡ p.ring
+      still = ap (λ b. if b then dirtied p.ring else p.ring) (nothing_touched p.ring.len at)
+
+      moved : moves p at [] ≡ None
+      moved = nothing_moved p.ring.clean (at == 0) (taken_by p.ring.len (rx_word p.own) p.ring.untaken (u32_at [] 0))
+
+      by : (b : Bool) → (if b then clean_after p.ring at 0 (moves p at []) else p.ring) ≡ p.ring
+      by true = ap (clean_after p.ring at 0) moved ∙ still
+      by false = refl

@@ -1,5 +1,5 @@
 //! What a domain has that is alive.
-ghost use Rattle.std.specs.Prelude.{◌≡◌, ◌+◌, ◌≤◌, ◌<◌, IfOk, length, take, drop};
+ghost use Rattle.std.specs.Prelude.{◌≡◌, ◌+◌, ◌*◌, ◌≤◌, ◌<◌, IfOk, length, take, drop};
 ghost use Rattle.argo_base.specs.Limits.{page_bytes};
 ghost use Rattle.argo_model.specs.Rules.Act as acts;
 ghost use Rattle.argo_model.specs.Rules.Effects as effects;
@@ -117,6 +117,9 @@ fn read(alloc: Global, ring: &Ring, place: u32, off: u32, n: u32) -> Result<Byte
     ensures { IfOk result
         (λ bytes. bytes ≡ take n (drop (page_bytes * place + off) (row_bytes ring.now.row))) }
 {
+    if n == 0 {
+        return Ok(Bytes::new(alloc));
+    }
     ring.len();
     let mut bytes = vec![in alloc; 0u8; n as usize]?;
     ring.read(PAGE_BYTES * place + off, bytes.as_mut_slice());

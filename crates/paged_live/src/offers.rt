@@ -71,6 +71,7 @@ fn offer_to(ring: &mut Ring, sent: Offer) -> Result<Outcome, NoMemory>
     ensures err { OnErr result (Becomes ring.old ring.new (λ p. p)) }
     ensures still { StandsStill ring.old ring.new }
 {
+    ring.row().count();
     ring.reserve_log()?;
     let Offer {
         sender,

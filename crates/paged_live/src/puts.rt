@@ -43,6 +43,10 @@ fn put_into(ring: &mut Ring, place: u32, off: u32, bytes: &[u8])
     ensures still { StandsStill ring.old ring.new }
 {
     ring.len();
+    if bytes.is_empty() {
+        ring.row().count();
+        return;
+    }
     ring.write(PAGE_BYTES * place + off, bytes);
     ring.row().count();
 }

@@ -1,7 +1,7 @@
 //! The notices of a domain's rings are looked through, ring after ring.
 ghost use Rattle.std.specs.Prelude.{◌≡◌, ◌≤◌, [], IfOk, OnOk, OnErr, vec_capacity};
 ghost use Rattle.argo_base.specs.Limits.{most_notices};
-ghost use Rattle.argo_model.specs.Rules.Effects.{after};
+ghost use Rattle.argo_model.specs.Rules.Effects as effects;
 ghost use Rattle.argo_model.specs.Rules.Sweep as sweep;
 ghost use Rattle.paged_live.specs.Parts.{StandsStill};
 ghost use Rattle.ring_core.specs.Held.{Becomes, IsSaid};
@@ -21,7 +21,7 @@ impl Live {
         ensures signals { IfOk result (λ c. c.signals.items
             ≡ (sweep.sweep_found self.old (sweep.next_ring after self.old.rings)).signals) }
         ensures left { OnOk result (self.new
-            ≡ after self.old (sweep.sweep_found self.old (sweep.next_ring after self.old.rings))) }
+            ≡ effects.after self.old (sweep.sweep_found self.old (sweep.next_ring after self.old.rings))) }
         ensures err { OnErr result (self.new ≡ self.old) }
     {
         let Some(row) = self.rings.after(after) else {
@@ -43,10 +43,11 @@ impl Live {
 fn sweep_ring(alloc: Global, ring: &mut Ring) -> Result<Vec<DomId>, NoMemory>
     ensures signals { IfOk result
         (λ doms. IsSaid ring.old doms.items (λ p. (sweep.sweep_ring p).signals)) }
-    ensures left { OnOk result (Becomes ring.old ring.new (λ p. after p (sweep.sweep_ring p))) }
+    ensures left { OnOk result (Becomes ring.old ring.new (λ p. effects.after p (sweep.sweep_ring p))) }
     ensures err { OnErr result (ring.new ≡ ring.old) }
     ensures still { StandsStill ring.old ring.new }
 {
+    ring.row().count();
     let mut doms = room_for_all(alloc)?;
     let ended = ring.sweep();
     ring.row().count();
