@@ -1,5 +1,5 @@
 -- Laws of acts on one ring, which keep its pages.
-use Rattle.std.proofs.Common.{◌≡◌, ℕ, ◌+◌, ◌*◌, ◌<◌, ◌≤◌, min, max, Bool, true, false, ◌&&◌, ◌||◌, ◌==◌, if◌then◌else◌, List, [], length, Option, Some, None, ◌⊎◌, inl, inr, refl, sym, ap, ◌∙◌, arith}
+use Rattle.std.proofs.Common.{◌≡◌, ℕ, ◌+◌, ◌*◌, ◌<◌, ◌≤◌, min, max, Bool, true, false, ◌&&◌, ◌||◌, ◌==◌, if◌then◌else◌, List, [], ◌∷◌, length, Option, Some, None, ◌⊎◌, inl, inr, refl, sym, ap, ◌∙◌, arith}
 use Rattle.std.proofs.lemmas.Bool.{cases_lt}
 use Rattle.std.proofs.lemmas.Bool.Decides.{nat_tests}
 use Rattle.argo_base.specs.Layout.{u32_at}
@@ -19,6 +19,7 @@ use Rattle.guest_pages.specs.Rows.{numbers_of, row_bytes}
 use Rattle.guest_pages.proofs.FlatLaws.{length-row_bytes}
 use Rattle.ring_core.specs.Held.{Held, paged, Becomes}
 use Rattle.ring_core.specs.Puts.{put_in}
+use Rattle.ring_core.proofs.TestLaws.{says_same}
 use Rattle.paged_live.specs.Parts.{StandsStill}
 use Rattle.paged_live.proofs.PutLaws.{put_pages}
 
@@ -82,3 +83,9 @@ put_nothing p at =
       by : (b : Bool) → (if b then clean_after p.ring at 0 (moves p at []) else p.ring) ≡ p.ring
       by true = ap (clean_after p.ring at 0) moved ∙ still
       by false = refl
+
+
+-- a test that says that there are no bytes
+pub no_bytes : (bytes : List ℕ) (b : Bool) → b ≡ (length bytes == 0) → b ≡ true → bytes ≡ []
+no_bytes [] b is h = refl
+no_bytes (x ∷ xs) b is h = let t : (length (x ∷ xs) == 0) ≡ true = sym is ∙ h in absurd (omega (arith, says_same (length (x ∷ xs)) 0 t))

@@ -1,5 +1,5 @@
 -- Laws of a domain of which one ring changes on its pages.
-use Rattle.std.proofs.Common.{◌≡◌, ◌≢◌, ℕ, ◌+◌, ◌*◌, ◌<◌, ◌≤◌, List, length, map, Option, Some, None, option_map, unwrap_or, ⊎_elim, refl, sym, ap, ◌∙◌, subst, arith}
+use Rattle.std.proofs.Common.{◌≡◌, ◌≢◌, ℕ, ◌+◌, ◌*◌, ◌<◌, ◌≤◌, List, length, map, Option, Some, None, option_map, unwrap_or, Result, Ok, Err, OnErr, ⊎_elim, refl, sym, ap, ◌∙◌, subst, arith}
 use Rattle.std.specs.List.Sorted.{IsStrictlySortedBy}
 use Rattle.std.specs.Map.{lookup, keys_of, set_value}
 use Rattle.std.specs.Option.{option_or}
@@ -221,3 +221,11 @@ match_none rows port sender none = match_seen rows port sender ∙ by (match_of 
   by : (o : Option (RingKey × Row Held)) → option_map (λ (e : RingKey × Row Held). e.0) o ≡ None → option_map seen_entry o ≡ None
   by None none = refl
   by (Some e) none = cc
+
+-- what holds in any case holds after an error
+pub in_any_case : {T E P : Type 0} (r : Result T E) → P → OnErr r P
+in_any_case (Ok x) p = tt
+in_any_case (Err e) p = p
+
+abbrev pub key_in_row : RingKey × Row Held → RingKey
+key_in_row e = e.0

@@ -1,13 +1,13 @@
 -- Laws of reads of a domain's pages, and of puts into them.
 use Rattle.std.proofs.Common.{◌≡◌, ◌≢◌, ℕ, zero, suc, ◌+◌, ◌-◌, ◌*◌, ◌/◌, ◌<◌, ◌≤◌, Bool, true, false, ◌==◌, cond, nat_lt, if◌then◌else◌, List, [], ◌∷◌, length, take, drop, slice_index, slice_get, map, position, Option, Some, None, option_map, unwrap_or, ⊎_elim, refl, sym, ap, ◌∙◌, subst, arith, length-drop}
-use Rattle.std.specs.Prelude.{not, slice_set}
+use Rattle.std.specs.Prelude.{not, slice_set, is_some}
 use Rattle.std.specs.List.{prefix_len}
 use Rattle.std.proofs.lemmas.Bool.{cases_lt}
 use Rattle.std.proofs.lemmas.Bool.Decides.{nat_tests}
-use Rattle.std.proofs.lemmas.List.{length-set, get_or-set_same, get_or-set_other}
+use Rattle.std.proofs.lemmas.List.{length-set, get_or-set_same, get_or-set_other, set-get_or}
 use Rattle.std.proofs.lemmas.List.Sums.{prefix_len_is}
 use Rattle.std.proofs.lemmas.List.{drop-drop, drop-take, take-take}
-use Rattle.std.proofs.lemmas.Option.{same_Some}
+use Rattle.std.proofs.lemmas.Option.{same_Some, none-some}
 use Rattle.std.proofs.lemmas.Map.Made.{lookup-map_values, keys_of-map_values}
 use Rattle.std.proofs.lemmas.Map.{keys-set_value}
 use Rattle.std.specs.List.Sorted.{IsStrictlySortedBy}
@@ -27,9 +27,10 @@ use Rattle.guest_pages.specs.Rows.{numbers_of, row_bytes}
 use Rattle.ring_core.specs.Held.{Held, paged, Becomes}
 use Rattle.ring_core.specs.Puts.{put_in}
 use Rattle.ring_core.proofs.TestLaws.{same_number, other_number}
-use Rattle.ring_table.specs.Rows.{Held as Row, held, held_at}
+use Rattle.ring_table.specs.Rows.{Held as Row, held, held_at, value_at}
 use Rattle.ring_table.proofs.BucketLaws.{key_total, key_exact, key_is}
 use Rattle.ring_table.proofs.EntryLaws.{same_entries}
+use Rattle.paged_live.specs.declared.home.Home.{Home}
 use Rattle.paged_live.specs.Homes.{home, home_at}
 use Rattle.paged_live.specs.Store.{Store, piece, page_of, memory, IsStore}
 use Rattle.paged_live.specs.Parts.{Rows, Parts, stood, ring_in, store_of, ring_of, rings_of, seen, AreNamed, IsParts, StandsStill}
@@ -305,3 +306,21 @@ place_of {X} (e ∷ es) key x found = by (is_at (key_cmp key) e.0) refl found (p
 
 pub ring_at : (x : Parts) (key : RingKey) (h : Row Held) → held_at x.rows key ≡ Some h → (i : ℕ) × (slice_get (rings_of x.rows) i ≡ Some (key, ring_of h))
 ring_at x key h found = place_of (rings_of x.rows) key (ring_of h) (lookup-map_values ring_of (is_at (key_cmp key)) x.rows ∙ ap (option_map ring_of) found)
+
+-- ---- what a call that found nothing says
+
+pub none_of : {X : Type 0} (o : Option X) → is_some o ≡ false → o ≡ None
+none_of None h = refl
+none_of (Some x) h = cc
+
+-- where no page stood by itself, nothing was written
+pub unwritten : (pages : List (Option (List ℕ))) (n off : ℕ) (bytes : List ℕ) → page_at pages n ≡ None → with_written pages n off bytes ≡ pages
+unwritten pages n off bytes none =
+    ap (λ o. slice_set pages n (option_map (λ p. splice p off bytes) o)) none ∙ ap (slice_set pages n) (sym none) ∙ set-get_or pages n None
+
+-- a page's home is a ring that stands
+pub home_stands : (x : Parts) → IsParts x → (page : ℕ) (h : Home) → home_at x.homes page ≡ Some h → value_at x.rows h.key ≡ None → ⊥
+home_stands x is page h at none = by (held_at x.rows h.key) refl none where
+  by : (o : Option (Row Held)) → held_at x.rows h.key ≡ o → option_map (λ (r : Row Held). r.value) o ≡ None → ⊥
+  by None found none = let l = is.store.lies page h at in none-some l.found (sym (ap (option_map stood) found) ∙ l.ring)
+  by (Some r) found none = none-some r.value (sym none)

@@ -9,5 +9,5 @@ use Rattle.paged_live.proofs.queries.ask.Goals as goal
 pub returns-clause-still : goal.returns-clause-still
 returns-clause-still c =
     let old = c.args.ring.now in
-    stands_still old c.query.new.self (λ p. after p (query_ring p (key_in old.id) c.args.sender c.args.need)) c.query.ensures.keeps.id c.query.ensures.left (λ p. refl)
+    stands_still old c.query-answer.new.self (λ p. after p (query_ring p (key_in old.id) c.args.sender c.args.need)) c.query-answer.ensures.keeps.id c.query-answer.ensures.left (λ p. refl)
     (subst AreWhole c.row.ensures c.count.ensures.whole)
