@@ -85,7 +85,7 @@ can_at pages [] i can below = absurd (omega arith)
 can_at pages (n ∷ ns) zero can below = (both (is_some (page_at pages n)) (list_all (λ n. is_some (page_at pages n)) ns) can).0
 can_at pages (n ∷ ns) (suc i) can below = can_at pages ns i (both (is_some (page_at pages n)) (list_all (λ n. is_some (page_at pages n)) ns) can).1 (omega arith)
 
-alone_at : (s : Store) (n : ℕ) → is_some (s.page n) ≡ true → Alone s n
+pub alone_at : (s : Store) (n : ℕ) → is_some (s.page n) ≡ true → Alone s n
 alone_at s n some = by (s.page n) refl some where
   by : (o : Option (List ℕ)) → s.page n ≡ o → is_some o ≡ true → Alone s n
   by None at some = absurd (false≢true some)

@@ -324,3 +324,11 @@ home_stands x is page h at none = by (held_at x.rows h.key) refl none where
   by : (o : Option (Row Held)) → held_at x.rows h.key ≡ o → option_map (λ (r : Row Held). r.value) o ≡ None → ⊥
   by None found none = let l = is.store.lies page h at in none-some l.found (sym (ap (option_map stood) found) ∙ l.ring)
   by (Some r) found none = none-some r.value (sym none)
+
+pub done_written : (x : Parts) → IsParts x → (page off : ℕ) (bytes b : List ℕ) → page_at x.private page ≡ Some b → Done ≡ (acts.put (seen x) page off bytes).outcome
+done_written x is page off bytes b at =
+    done_there (seen x) page off bytes (page_is_there x is page ∙ inside_is page (length x.private) (is.store.inside page b at))
+
+pub done_put : (x : Parts) → IsParts x → (page off : ℕ) (bytes : List ℕ) (h : Home) → home_at x.homes page ≡ Some h → Done ≡ (acts.put (seen x) page off bytes).outcome
+done_put x is page off bytes h at =
+    done_there (seen x) page off bytes (page_is_there x is page ∙ inside_is page (length x.private) (is.store.there page h at))
