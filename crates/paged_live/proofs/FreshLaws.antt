@@ -10,7 +10,7 @@ use Rattle.guest_pages.proofs.PageLaws.{length-zero_page}
 use Rattle.ring_core.specs.Flat.{flat}
 use Rattle.paged_live.specs.declared.home.Home.{Home}
 use Rattle.paged_live.specs.Store.{Store, page_of, memory, IsStore}
-use Rattle.paged_live.specs.Parts.{Parts, store_of, seen, AreNamed, IsParts}
+use Rattle.paged_live.specs.Parts.{Rows, Parts, store_of, seen, AreNamed, IsParts}
 use Rattle.paged_live.proofs.PageLaws.{flat_same}
 use Rattle.paged_live.proofs.StoreLaws.{alone_is}
 
@@ -73,3 +73,11 @@ fresh_seen count =
     (ap (flat (page_of (store_of (fresh count)))) (length-replicate count (Some zero_page))
     ∙ flat_same (page_of (store_of (fresh count))) (λ n. zero_page) count (λ n below. alone_is (store_of (fresh count)) n zero_page (page_there count n below))
     ∙ zeros count)
+
+-- what is made of such pages and homes
+pub same_start : (count : ℕ) (pages : List (Option (List ℕ))) (homes : List (Option Home)) (rows : Rows) → pages ≡ replicate count (Some zero_page) → homes ≡ replicate count None → rows ≡ []
+    → record { private = pages; homes = homes; flag = false; next_serial = 1; rows = rows } ≡ fresh count
+same_start count pages homes rows p h r =
+    ap (λ ps. record { private = ps; homes = homes; flag = false; next_serial = 1; rows = rows }) p
+    ∙ ap (λ hs. record { private = replicate count (Some zero_page); homes = hs; flag = false; next_serial = 1; rows = rows }) h
+    ∙ ap (λ rs. record { private = replicate count (Some zero_page); homes = replicate count None; flag = false; next_serial = 1; rows = rs }) r

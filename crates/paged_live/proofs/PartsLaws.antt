@@ -16,7 +16,8 @@ use Rattle.argo_model.specs.Rules.Effects.{Change, lifted, after}
 use Rattle.argo_model.specs.Rules.RingBytes.{PagedRing, paged as paged_in, set_paged, laid, ring_bytes}
 use Rattle.guest_pages.specs.Rows.{numbers_of, row_bytes}
 use Rattle.ring_core.specs.Held.{Held, paged, Becomes}
-use Rattle.ring_table.specs.Rows.{Held as Row, held, held_at, value_at}
+use Rattle.ring_table.specs.declared.row.Row.{Row as TableRow}
+use Rattle.ring_table.specs.Rows.{Held as Row, held, held_at, value_at, row_of}
 use Rattle.ring_table.specs.Edits.{with_value}
 use Rattle.paged_live.specs.Store.{Store, memory, IsStore}
 use Rattle.paged_live.specs.Parts.{Rows, Parts, stood, ring_in, store_of, ring_of, rings_of, seen, AreNamed, IsParts, StandsStill}
@@ -229,3 +230,12 @@ in_any_case (Err e) p = p
 
 abbrev pub key_in_row : RingKey × Row Held → RingKey
 key_in_row e = e.0
+
+-- a row that is found
+pub found_row : (rows : Rows) (key : RingKey) (row : TableRow Held) → option_map row_of (at_key rows key) ≡ Some row → Found rows key row.value
+found_row rows key row at = by (held_at rows key) refl at where
+  by : (o : Option (Row Held)) → held_at rows key ≡ o → option_map row_of (option_map (λ (h : Row Held). (key, h)) o) ≡ Some row → Found rows key row.value
+  by None is at = cc
+  by (Some h) is at =
+      let same : row_of (key, h) ≡ row = same_Some (row_of (key, h)) row at in
+      record { serial = h.serial; is = is ∙ ap (λ v. Some (held h.serial v)) (ap (λ (r : TableRow Held). r.value) same) }

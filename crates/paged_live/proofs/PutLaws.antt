@@ -14,7 +14,7 @@ use Rattle.std.specs.List.Sorted.{IsStrictlySortedBy}
 use Rattle.std.specs.Map.{lookup, set_value, keys_of}
 use Rattle.std.specs.BTreeMap.{is_at}
 use Rattle.argo_base.specs.declared.ring_key.RingKey.{RingKey}
-use Rattle.argo_base.specs.Match.{key_cmp}
+use Rattle.argo_base.specs.Match.{key_cmp, at_key}
 use Rattle.argo_base.specs.Splice.{splice}
 use Rattle.argo_model.specs.Rules.State.{Ring, Live, has_page}
 use Rattle.argo_model.specs.Rules.Puts.{after_put, put_into, byte_at, ring_after_put, clean_after, moves, touches, dirtied}
@@ -27,7 +27,7 @@ use Rattle.guest_pages.specs.Rows.{numbers_of, row_bytes}
 use Rattle.ring_core.specs.Held.{Held, paged, Becomes}
 use Rattle.ring_core.specs.Puts.{put_in}
 use Rattle.ring_core.proofs.TestLaws.{same_number, other_number}
-use Rattle.ring_table.specs.Rows.{Held as Row, held, held_at, value_at}
+use Rattle.ring_table.specs.Rows.{Held as Row, held, held_at, value_at, row_of}
 use Rattle.ring_table.proofs.BucketLaws.{key_total, key_exact, key_is}
 use Rattle.ring_table.proofs.EntryLaws.{same_entries}
 use Rattle.paged_live.specs.declared.home.Home.{Home}
@@ -332,3 +332,24 @@ done_written x is page off bytes b at =
 pub done_put : (x : Parts) → IsParts x → (page off : ℕ) (bytes : List ℕ) (h : Home) → home_at x.homes page ≡ Some h → Done ≡ (acts.put (seen x) page off bytes).outcome
 done_put x is page off bytes h at =
     done_there (seen x) page off bytes (page_is_there x is page ∙ inside_is page (length x.private) (is.store.there page h at))
+
+-- what a read of the pages that stand by themselves found
+pub fetch_some : (x : Parts) → IsParts x → (page off n : ℕ) (bytes : List ℕ) → off + n ≤ 4096 → option_map (λ p. take n (drop off p)) (page_at x.private page) ≡ Some bytes
+    → Bytes bytes ≡ acts.fetch (seen x) page off n
+fetch_some x is page off n bytes fit found = by (page_at x.private page) refl found where
+  by : (o : Option (List ℕ)) → page_at x.private page ≡ o → option_map (λ p. take n (drop off p)) o ≡ Some bytes → Bytes bytes ≡ acts.fetch (seen x) page off n
+  by None at found = cc
+  by (Some b) at found = ap Bytes (sym (same_Some (take n (drop off b)) bytes found)) ∙ fetch_alone x is page off n b fit at
+
+pub fetch_none : (x : Parts) (page off n : ℕ) → option_map (λ p. take n (drop off p)) (page_at x.private page) ≡ None → page_at x.private page ≡ None
+fetch_none x page off n none = by (page_at x.private page) none where
+  by : (o : Option (List ℕ)) → option_map (λ (p : List ℕ). take n (drop off p)) o ≡ None → o ≡ None
+  by None h = refl
+  by (Some b) h = absurd (none-some (take n (drop off b)) (sym h))
+
+-- a row that is not found
+pub row_none : (rows : Rows) (key : RingKey) → option_map row_of (at_key rows key) ≡ None → value_at rows key ≡ None
+row_none rows key none = by (held_at rows key) none where
+  by : (o : Option (Row Held)) → option_map row_of (option_map (λ (h : Row Held). (key, h)) o) ≡ None → option_map (λ (h : Row Held). h.value) o ≡ None
+  by None h = refl
+  by (Some r) h = cc

@@ -1,5 +1,5 @@
 //! What a domain has that is alive.
-ghost use Rattle.std.specs.Prelude.{◌≡◌, ◌+◌, ◌*◌, ◌≤◌, ◌<◌, IfOk, length, take, drop};
+ghost use Rattle.std.specs.Prelude.{◌≡◌, ◌+◌, ◌*◌, ◌≤◌, ◌<◌, IfOk, None, length, replicate, take, drop};
 ghost use Rattle.argo_base.specs.Limits.{page_bytes};
 ghost use Rattle.argo_model.specs.Rules.Act as acts;
 ghost use Rattle.argo_model.specs.Rules.Effects as effects;
@@ -57,7 +57,7 @@ impl Live {
         ensures { IfOk result (λ live. live ≡ fresh_live pages) }
     {
         let private = Private::new(alloc, pages)?;
-        let homes = vec![in alloc; None; pages as usize]?;
+        let homes = no_homes(alloc, pages)?;
         Ok(Live {
             private,
             homes,
@@ -124,4 +124,15 @@ fn read(alloc: Global, ring: &Ring, place: u32, off: u32, n: u32) -> Result<Byte
     let mut bytes = vec![in alloc; 0u8; n as usize]?;
     ring.read(PAGE_BYTES * place + off, bytes.as_mut_slice());
     Ok(Bytes::from_vec(bytes))
+}
+
+// No page of so many is lent.
+fn no_homes(alloc: Global, count: u32) -> Result<Vec<Option<Home>>, NoMemory>
+    ensures { IfOk result (λ homes. homes.items ≡ replicate count None) }
+{
+    let mut homes = Vec::with_capacity(alloc, count as usize)?;
+    for _ in 0..count {
+        homes.push(None)?;
+    }
+    Ok(homes)
 }
