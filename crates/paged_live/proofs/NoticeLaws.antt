@@ -10,7 +10,7 @@ use Rattle.argo_model.specs.Rules.Destroy.{ring_without}
 use Rattle.argo_model.specs.Rules.Register.{own_ring, has_ring}
 use Rattle.argo_model.specs.Rules.RingBytes.{PagedRing, set_paged, laid}
 use Rattle.ring_core.specs.Held.{Held, paged, Becomes}
-use Rattle.ring_table.specs.Rows.{Held as Row, held, held_at}
+use Rattle.ring_table.specs.Rows.{Held as Row, held, held_at, value_at}
 use Rattle.paged_live.specs.Ends.{forgotten, set_ring, without_notice, without_notice_at}
 use Rattle.paged_live.specs.Store.{Store, IsStore}
 use Rattle.paged_live.specs.Parts.{Rows, Parts, store_of, ring_of, rings_of, seen, IsParts, StandsStill}
@@ -47,3 +47,9 @@ notice_seen x is key a b f d still becomes =
 -- where no ring stands
 pub no_notice : (x : Parts) (key : RingKey) (d : ℕ) → held_at x.rows key ≡ None → seen x ≡ without_notice d key (seen x)
 no_notice x key d none = ap (without_notice_at d key (seen x)) (sym (lookup-map_values ring_of (is_at (key_cmp key)) x.rows ∙ ap (option_map ring_of) none))
+
+pub no_value : (rows : Rows) (key : RingKey) → value_at rows key ≡ None → held_at rows key ≡ None
+no_value rows key none = by (held_at rows key) none where
+  by : (o : Option (Row Held)) → option_map (λ (r : Row Held). r.value) o ≡ None → o ≡ None
+  by None h = refl
+  by (Some r) h = cc

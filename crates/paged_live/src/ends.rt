@@ -51,6 +51,7 @@ impl Live {
             return false;
         };
         let (row, _) = ring.into_parts();
+        row.count();
         clear(self.homes.as_mut_slice(), &row);
         self.private.give_back(row);
         true

@@ -1,0 +1,32 @@
+use Rattle.std.proofs.Common.{◌≡◌, ◌∙◌, sym, ap}
+use Rattle.std.specs.Option.{option_copied_mut}
+use Rattle.argo_model.specs.Rules.State.{Live}
+use Rattle.paged_live.specs.Ends.{without_notice}
+use Rattle.paged_live.specs.Parts.{Parts, seen}
+use Rattle.paged_live.proofs.PartsLaws.{found_value, changed_parts}
+use Rattle.paged_live.proofs.NoticeLaws.{notice_seen, no_notice, no_value}
+use Rattle.paged_live.proofs.live.Live.forget_notice.Goals as goal
+
+pub returns-in_default : goal.returns-in_default
+returns-in_default c =
+    let i = c.self.inside in
+    let x : Parts = record { private = i.private; homes = i.homes.items; flag = i.flag; next_serial = i.next_serial; rows = i.rings } in
+    no_notice x c.args.key c.args.dom (no_value x.rows c.args.key (sym c.find_exact_mut.ensures.value ∙ ap option_copied_mut c.in_default.is))
+    ∙ ap (without_notice c.args.dom c.args.key) c.self.view_is
+
+pub invariant_of-self-2 : goal.invariant_of-self-2
+invariant_of-self-2 c =
+    let i = c.self.inside in
+    let x : Parts = record { private = i.private; homes = i.homes.items; flag = i.flag; next_serial = i.next_serial; rows = i.rings } in
+    let a = c.in-Some.ring.now in
+    let f = found_value x.rows c.args.key a (sym c.find_exact_mut.ensures.value ∙ ap option_copied_mut c.in-Some.is) in
+    changed_parts x c.self.invariant c.args.key a c.forget.new.ring f c.forget.ensures.still
+
+pub returns : goal.returns
+returns c =
+    let i = c.self.inside in
+    let x : Parts = record { private = i.private; homes = i.homes.items; flag = i.flag; next_serial = i.next_serial; rows = i.rings } in
+    let a = c.in-Some.ring.now in
+    let f = found_value x.rows c.args.key a (sym c.find_exact_mut.ensures.value ∙ ap option_copied_mut c.in-Some.is) in
+    notice_seen x c.self.invariant c.args.key a c.forget.new.ring f c.args.dom c.forget.ensures.still c.forget.ensures.left
+    ∙ ap (without_notice c.args.dom c.args.key) c.self.view_is

@@ -1,0 +1,4 @@
+use Rattle.paged_live.proofs.live.Live.sweep.Goals as goal
+
+pub returns-clause-left : goal.returns-clause-left
+returns-clause-left c = ?
