@@ -9,7 +9,9 @@ use Rattle.paged_live.specs.Homes.{home, with_home, settled, cleared}
 drop_next : (xs : List ℕ) (k : ℕ) → k < length xs → drop k xs ≡ slice_index xs k ∷ drop (k + 1) xs
 drop_next [] k below = absurd (omega arith)
 drop_next (x ∷ xs) zero below = refl
-drop_next (x ∷ xs) (suc k) below = drop_next xs k (omega arith) ∙ ap (λ n. slice_index xs k ∷ drop n (x ∷ xs)) (omega arith)
+drop_next (x ∷ xs) (suc k) below =
+    let e : suc (k + 1) ≡ suc k + 1 = omega arith in
+    drop_next xs k (omega arith) ∙ ap (λ n. slice_index xs k ∷ drop n (x ∷ xs)) e
 
 -- one more is settled
 pub settle_next : (key : RingKey) (ns : List ℕ) (homes : List (Option Home)) (k n : ℕ) → k < length ns → n ≡ slice_index ns k
@@ -31,4 +33,4 @@ clear_done ns homes k past = ap (λ xs. cleared xs homes) (drop_all k ns (omega 
 
 -- the number of a page of a row
 pub number_of : (row : List (ℕ × List ℕ)) (k : ℕ) → k < length row → (page_in row k).0 ≡ slice_index (numbers_of row) k
-number_of row k below = sym (get_or-map (λ (p : ℕ × List ℕ). p.0) row k 0 (0, []) below)
+number_of row k below = sym (get_or-map (λ (p : ℕ × List ℕ). p.0) row k (0, []) 0 below)
