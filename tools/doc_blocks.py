@@ -7,6 +7,8 @@ report N     the whole output for the script above under the seed N
 lines N      lines of that output, in this order
 summary N    the whole output for the words `gen N`, which need no script
 asm-line     a line of argo_asm, in a domain 1 of two pages; what it writes must run
+check        a script, a mark and a report
+answer       the whole output of argo_check for the block above
 argo-line    what argo_asm writes of the line above, without its comments
 
 A row of a table that begins with a kind of fault and a line number, as | `range` (2) |, has a text with that fault in its second cell,
@@ -22,6 +24,8 @@ AROUND = "argo 1\ndomain 1 pages 2\nvcpu 1\n"
 class Case:
     """A run that a document shows: the whole output, some of its lines, or only that there is a report."""
 
+    program, statuses = "argo_run", (0, 5)
+
     def __init__(self, name, script, words, wanted, is_whole):
         self.name, self.script, self.words = name, script, words
         self.wanted, self.is_whole = wanted, is_whole
@@ -32,6 +36,12 @@ class Case:
         lines = iter(output.splitlines())
         missing = [it for it in self.wanted.splitlines() if it not in lines]
         return f"the run has no line '{missing[0]}' there:\n{output}" if missing else None
+
+
+class Check(Case):
+    """A check of a report that a document shows."""
+
+    program, statuses = "argo_check", (0, 1)
 
 
 class Reader:
@@ -57,6 +67,10 @@ class Reader:
             self.case(line, seed, text, kind == "report")
         elif kind == "summary":
             self.cases.append(Case(f"{self.name}:{line}", "", ["gen", seed], text, True))
+        elif kind == "check":
+            self.script = text
+        elif kind == "answer":
+            self.cases.append(Check(f"{self.name}:{line}", self.script, [], text, True))
         elif kind == "asm-line":
             self.script = self.assemble(AROUND + text)
             self.wrote = "".join(f"{it}\n" for it in self.script.splitlines()[3:] if not it.startswith("#"))

@@ -1,4 +1,5 @@
 pub mod Errno
+pub mod Generator
 pub mod Iovs
 pub mod Layout
 pub mod Limits
@@ -6,8 +7,10 @@ pub mod Match
 pub mod MessageList
 pub mod Messages
 pub mod Notices
+pub mod Numbers
 pub mod Pieces
 pub mod RingIds
 pub mod Rounds
+pub mod SlotBytes
 pub mod Slots
 pub mod Splice

@@ -8,6 +8,7 @@
 mod dom_id;
 mod dom_list;
 mod errno;
+mod generator;
 mod items;
 mod limits;
 mod message;
@@ -23,6 +24,7 @@ mod tests;
 pub use dom_id::DomId;
 pub use dom_list::{DomList, Ended};
 pub use errno::Errno;
+pub use generator::{drawn, next_number};
 pub use items::{Bytes, Items, PageList};
 pub use limits::{
     GREATEST_RING, LEAST_RING, LONGEST_BODY, MOST_NOTICES, PAGE_BYTES, limits_are_the_rules,

@@ -18,7 +18,10 @@ impl Model for MessageList {
 
     ghost Value = { Listed };
 
-    ghost view = { λ a. record { messages = a.items.items; has_room = nat_lt (vec_len a.items) (vec_capacity a.items) } };
+    ghost view = { λ a. record {
+      messages = a.items.items;
+      has_room = nat_lt (vec_len a.items) (vec_capacity a.items);
+    } };
 }
 
 impl MessageList {

@@ -19,8 +19,7 @@ use Rattle.argo_model.specs.Runs.Script.{Section}
 use Rattle.argo_model.specs.Runs.Run.{Step, Course, Turn, turn, next_turn, step_of, after_turn, step, start, at_first_line}
 use Rattle.argo_model.specs.Runs.Final.{grown, runs_of, schedule_of, done_at, done_of, totals_of, totals_after, done_lines, no_steps}
 use Rattle.vcpu_machine.specs.Vcpu.{VcpuAt, StandsAt, GoesOn, TakesTurn}
-use Rattle.flat_world.specs.Flat.{WorldAt}
-use Rattle.argo_machine.specs.Kept.{AllStand, actor_of, KeepsCourse}
+use Rattle.argo_machine.specs.Kept.{WorldAt, AllStand, actor_of, KeepsCourse}
 use Rattle.argo_machine.specs.Machine.{script_of}
 use Rattle.argo_machine.specs.Vcpus.{AreVcpusOf, most_of}
 use Rattle.argo_machine.specs.Replies.{reply_steps}
@@ -39,15 +38,15 @@ pub record RunTurn (c : Course) (v line : ℕ) (o : Outcome) (reply : Option Rep
   pub state_is : after ≡ Some turned.state
   pub stands : StandsAt new turned.progress
 
-run_turn : (xs : List VcpuAt) (before : State) (after : Option State) (c : Course) (v : ℕ) (x new : VcpuAt) (o : Outcome) (reply : Option Reply)
-    → before ≡ c.state → AllStand xs c.sections → slice_get xs v ≡ Some x → TakesTurn (Some before) x o reply after new
+run_turn : (xs : List VcpuAt) (before after : Option State) (c : Course) (v : ℕ) (x new : VcpuAt) (o : Outcome) (reply : Option Reply)
+    → before ≡ Some c.state → AllStand xs c.sections → slice_get xs v ≡ Some x → TakesTurn before x o reply after new
     → RunTurn c v (x.done + 1) o reply new after
-run_turn xs before after c v x new o reply state all here taken =
+run_turn xs before after c v x new o reply told all here taken =
     let st = stands_at xs c.sections v x all here in
-    let t = taken.turns before refl st.0 st.2 in
+    let t = taken.turns c.state told st.0 st.2 in
     record {
       turned = t.0;
-      is = ap (λ y. option_and_then (turn c.state) y) st.1 ∙ ap (λ y. turn y st.0) (sym state) ∙ t.1;
+      is = ap (λ y. option_and_then (turn c.state) y) st.1 ∙ t.1;
       line_is = t.2;
       outcome_is = t.3;
       reply_is = t.4;
@@ -63,18 +62,15 @@ done_of-one : (v line : ℕ) (a : _) (o : Outcome) (reply : Option Reply) → do
 done_of-one v line a o None = refl
 done_of-one v line a o (Some r) = refl
 
-some-same : (a b : State) → Some a ≡ Some b → a ≡ b
-some-same a b e = cc
-
 -- what keeps the course keeps it after a step
 pub advanced : (xs : List VcpuAt) (w after : WorldAt) (runs : List Run) (done : List DoneLine) (ns : List ℕ) (v n : ℕ) (x new : VcpuAt) (o : Outcome) (reply : Option Reply)
-    → slice_get xs v ≡ Some x → TakesTurn (Some w.state) x o reply (Some after.state) new
+    → slice_get xs v ≡ Some x → TakesTurn w.told x o reply after.told new
     → after.actors ≡ w.actors → after.totals ≡ counted_at w.totals v o → option_map (λ t. t.steps) (slice_get after.totals v) ≡ Some n
     → (c : Course) → KeepsCourse xs w runs done ns c
     → KeepsCourse (set xs v new) after (grown runs v) (done ++ done_lines v (x.done + 1) reply) (ns ++ reply_steps n reply) (step c v)
     × (option_map (λ t. t.outcome) (next_turn c v) ≡ Some o)
 advanced xs w after runs done ns v n x new o reply here taken actors counts numbered c keeps =
-    let r = run_turn xs w.state (Some after.state) c v x new o reply keeps.state_is keeps.stand here taken in
+    let r = run_turn xs w.told after.told c v x new o reply keeps.told_is keeps.stand here taken in
     let y : Step = step_of v r.turned in
     let inside = some_inside xs v x here in
     let stepped : step c v ≡ after_turn c v (Some r.turned) = ap (λ t. after_turn c v t) r.is in
@@ -88,7 +84,7 @@ advanced xs w after runs done ns v n x new o reply here taken actors counts numb
     step_number c.steps y (length xs) v n inside (sym (ap (λ ts. option_map (λ t. t.steps) (slice_get ts v)) totals) ∙ numbered) refl in
     let P : Course → Type 0 = λ d. KeepsCourse (set xs v new) after (grown runs v) (done ++ done_lines v (x.done + 1) reply) (ns ++ reply_steps n reply) d in (
       subst P (sym stepped) (record {
-        state_is = some-same after.state r.turned.state r.state_is;
+        told_is = r.state_is;
         actors_are = actors ∙ keeps.actors_are ∙ sym (actors-set xs v x new here taken.part);
         totals_are = totals ∙ ap (λ k. map (totals_of (c.steps ++ y ∷ [])) (range_with_len 0 k)) (sym (length-set xs v new));
         stand = all_stand-set xs c.sections v new r.turned.progress keeps.stand r.stands;
@@ -111,7 +107,7 @@ pub kept_same : (xs : List VcpuAt) (w : WorldAt) (runs : List Run) (done : List 
     → slice_get xs v ≡ Some x → GoesOn x new → (c : Course) → KeepsCourse xs w runs done ns c → KeepsCourse (set xs v new) w runs done ns c
 kept_same xs w runs done ns v x new here same c keeps =
     record {
-      state_is = keeps.state_is;
+      told_is = keeps.told_is;
       actors_are = keeps.actors_are ∙ sym (actors-set xs v x new here same.part);
       totals_are = keeps.totals_are ∙ ap (λ k. map (totals_of c.steps) (range_with_len 0 k)) (sym (length-set xs v new));
       stand = all_stand-same xs c.sections v x new keeps.stand here same;
@@ -133,13 +129,13 @@ keeps_along xs xs2 w w2 rs rs2 ds ds2 ns ns2 c ex ew er ed en keeps =
     let N : List ℕ → Type 0 = λ x. KeepsCourse xs2 w2 rs2 ds2 x c in
     subst N (sym en) (subst R (sym ed) (subst Q (sym er) (subst P (sym ew) (subst O (sym ex) keeps))))
 
-abbrev world_with : State → List Actor → List Totals → WorldAt
-world_with s a t = record { state = s; actors = a; totals = t }
+abbrev pub world_with : Option State → List Actor → List Totals → WorldAt
+world_with s a t = record { told = s; actors = a; totals = t }
 
-pub same_world : (w w2 : WorldAt) → Some w2.state ≡ Some w.state → w2.actors ≡ w.actors → w2.totals ≡ w.totals → w2 ≡ w
+pub same_world : (w w2 : WorldAt) → w2.told ≡ w.told → w2.actors ≡ w.actors → w2.totals ≡ w.totals → w2 ≡ w
 same_world w w2 s a t =
-    ap (λ x. world_with x w2.actors w2.totals) (some-same w2.state w.state s)
-    ∙ ap (λ x. world_with w.state x w2.totals) a ∙ ap (λ x. world_with w.state w.actors x) t
+    ap (λ x. world_with x w2.actors w2.totals) s
+    ∙ ap (λ x. world_with w.told x w2.totals) a ∙ ap (λ x. world_with w.told w.actors x) t
 
 lt_to : (m n : ℕ) → m < n → IsTrue (nat_lt m n)
 lt_to m n h = grind (arith, nat_tests)
@@ -186,13 +182,13 @@ short_schedule xs w runs done ns c keeps = let b = keeps.bounded in omega arith
 
 -- before the first step
 pub starts_so : (version : ℕ) (domains : List DomainLine) (xs : List VcpuAt) (sections : List Section) (w : WorldAt)
-    → AreVcpusOf xs sections → w.state ≡ start_state domains → w.actors ≡ map (λ s. s.actor) sections → w.totals ≡ map (λ s. no_steps) sections
+    → AreVcpusOf xs sections → w.told ≡ Some (start_state domains) → w.actors ≡ map (λ s. s.actor) sections → w.totals ≡ map (λ s. no_steps) sections
     → sum_by most_of sections ≤ 2 ^ 28
     → KeepsCourse xs w [] [] [] (start (script_of version domains xs))
-starts_so version domains xs sections w are state actors totals bound =
+starts_so version domains xs sections w are told actors totals bound =
     let n : length xs ≡ length sections = sym (length-map xs (λ x. x.part)) ∙ ap length are.sections_are in
     record {
-      state_is = state;
+      told_is = told;
       actors_are = actors ∙ ap (λ ss. map (λ s. s.actor) ss) (sym are.sections_are) ∙ map-actors xs;
       totals_are = totals ∙ zero_totals sections 0 ∙ ap (λ k. map (totals_of []) (range_with_len 0 k)) (sym n);
       stand = let P : List Section → Type 0 = λ ys. AllStand xs (map at_first_line ys) in subst P (sym are.sections_are) are.stand;

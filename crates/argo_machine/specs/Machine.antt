@@ -27,14 +27,14 @@ pub record OneStep (old : Standing) (v : ℕ) (outcome : Outcome) (new : Standin
   pub nearer : new.left < old.left
 
 -- how contracts see a machine
-abbrev pub standing_of : Inside → Standing
+abbrev pub standing_of : {W : Type 0} → Inside W → Standing
 standing_of m =
     record {
-      script = script_of m.version m.domains m.kept.vcpus.items;
-      schedule = schedule_of m.kept.books.runs.items;
-      left = all_left m.kept.vcpus.items;
+      script = script_of m.version m.domains m.kept.vcpus;
+      schedule = schedule_of m.kept.runs;
+      left = all_left m.kept.vcpus;
     }
 
 -- it keeps the course of its script under its schedule
-abbrev pub IsKept : Inside → Type 0
-IsKept m = Keeps m.kept (run (script_of m.version m.domains m.kept.vcpus.items) (schedule_of m.kept.books.runs.items))
+abbrev pub IsKept : {W : Type 0} → Inside W → Type 0
+IsKept m = Keeps m.kept (run (script_of m.version m.domains m.kept.vcpus) (schedule_of m.kept.runs))

@@ -11,23 +11,24 @@ use crate::books::Books;
 use crate::replies::heard_of_all;
 use crate::vcpus::vcpus_of;
 use argo_base::NoMemory;
-use argo_model::{ClosedDomains, DomainLines, DoneList, Final, Heard, Outcome, Runs, Scripts};
-use flat_world::FlatWorld;
+use argo_model::{
+    ClosedDomains, DomainLines, DoneList, Final, Heard, Outcome, Runs, Scripts, SerialWorld,
+};
 use std::alloc::Global;
 use std::marker::Model;
 use vcpu_machine::Vcpu;
 
-/// The plain machine over a script: it runs it, step by step, under any schedule. Contracts see what it runs, the schedule
-/// so far, and how many steps are to come at most.
+/// The machine over a script and a serial world: it runs the script, step by step, under any schedule. Contracts see what it runs,
+/// the schedule so far, and how many steps are to come at most.
 #[derive(Drop)]
-pub struct Machine {
+pub struct Machine<W: SerialWorld> {
     version: u32,
     domains: DomainLines,
-    kept: Kept,
+    kept: Kept<W>,
     alloc: Global,
 }
 
-impl Model for Machine {
+impl<W: SerialWorld> Model for Machine<W> {
     ghost use Rattle.argo_machine.specs.Machine.{Standing, standing_of, IsKept};
 
     ghost Value = { Standing };
@@ -37,16 +38,16 @@ impl Model for Machine {
     ghost invariant = { IsKept };
 }
 
-impl Machine {
+impl<W: SerialWorld> Machine<W> {
     /// The machine before the first step of a script.
-    pub fn new(alloc: Global, scripts: &Scripts) -> Result<Machine, NoMemory>
+    pub fn new(alloc: Global, scripts: &Scripts) -> Result<Machine<W>, NoMemory>
         ensures script { IfOk result (λ m. m.script ≡ scripts.now) }
         ensures schedule { IfOk result (λ m. m.schedule ≡ []) }
         ensures left { IfOk result (λ m. m.left < 2 ^ 32) }
     {
         let vcpus = vcpus_of(alloc, scripts.parts.as_slice())?;
         let domains = DomainLines::copy_of(alloc, scripts.domains.as_slice())?;
-        let world = FlatWorld::new(alloc, scripts)?;
+        let world = W::start(alloc, scripts)?;
         Ok(Machine {
             version: scripts.version,
             domains,
@@ -63,7 +64,8 @@ impl Machine {
     pub fn finished(&self, v: u32) -> bool
         ensures { IsTrue result ↔ (is_open (run self.now.script self.now.schedule) v ≡ false) }
     {
-        match self.kept.vcpus.get(v as usize) {
+        let kept = &self.kept;
+        match kept.vcpus.get(v as usize) {
             Some(vcpu) => vcpu.finished(),
             None => true,
         }
@@ -118,13 +120,31 @@ impl Machine {
 
 /// What a machine keeps of a run.
 #[derive(Drop)]
-pub(crate) struct Kept {
+pub(crate) struct Kept<W: SerialWorld> {
     vcpus: Vec<Vcpu>,
-    world: FlatWorld,
+    world: W,
     books: Books,
 }
 
-impl Kept {
+impl<W: SerialWorld> Model for Kept<W> {
+    ghost use Rattle.argo_machine.specs.Kept.{KeptAt};
+
+    ghost Value = { KeptAt };
+
+    ghost view = { λ k. record {
+      vcpus = k.vcpus.items;
+      world = record {
+        told = W.told k.world;
+        actors = W.actors k.world;
+        totals = W.totals k.world;
+      };
+      runs = k.books.runs.items;
+      done = k.books.done.items;
+      reply_steps = k.books.reply_steps.items;
+    } };
+}
+
+impl<W: SerialWorld> Kept<W> {
     ghost use Rattle.argo_machine.specs.Kept.{IsOpenIn, AdvancesBy, StaysKept};
 
     // One step of a section.

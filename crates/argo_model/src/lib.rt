@@ -13,6 +13,7 @@ pub mod examples;
 mod line;
 mod reply;
 mod scripts;
+mod serial_world;
 mod short;
 
 pub use access::Access;
@@ -27,4 +28,5 @@ pub use closing::{
 pub use line::{Line, Lines};
 pub use reply::Reply;
 pub use scripts::{Actor, DomainLine, DomainLines, Part, Parts, Scripts};
+pub use serial_world::SerialWorld;
 pub use short::Short;

@@ -1,5 +1,6 @@
 //! A ring of a domain.
 ghost use Rattle.std.specs.Prelude.{◌≡◌, ◌/◌, ◌<◌, IsTrue, IfOk, OnOk, OnErr, length, slice_index};
+ghost use Rattle.argo_base.specs.SlotBytes as slot_bytes;
 ghost use Rattle.argo_model.specs.Rules.RingBytes as bytes;
 ghost use Rattle.argo_model.specs.Rules.Sweep.{sweep_ring};
 ghost use Rattle.argo_model.specs.Rules.Register.{stands_so};
@@ -55,7 +56,7 @@ impl Ring {
     /// The rx word in the memory of the ring's owner.
     pub(crate) fn rx_word(&self, memory: &[u8]) -> u32
         requires { slice_index self.now.pages 0 < length memory.now / 4096 }
-        ensures { result ≡ bytes.rx_word (bytes.ring_bytes memory.now self.now.pages) }
+        ensures { result ≡ slot_bytes.rx_word (bytes.ring_bytes memory.now self.now.pages) }
     {
         word(memory, self.pages.as_slice(), 0)
     }

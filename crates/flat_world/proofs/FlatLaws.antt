@@ -20,7 +20,8 @@ use Rattle.argo_model.specs.Rules.State.{State, Domain, Live, fresh_domain, star
 use Rattle.argo_model.specs.Runs.Final.{totals_after, no_steps}
 use Rattle.argo_model.specs.Runs.Script.{Script, Section, is_lawful}
 use Rattle.flat_world.specs.World.{is_young_life, is_young_domain, IsYoung}
-use Rattle.flat_world.specs.Flat.{WorldAt, steps_of, IsSmall, IsWorld}
+use Rattle.argo_model.specs.Rules.Access.{steps_of}
+use Rattle.flat_world.specs.Flat.{WorldAt, IsSmall, IsWorld}
 use Rattle.flat_world.specs.Shown.{are_shown}
 use Rattle.flat_live.proofs.EntryLaws.{all_pass-weaker, all_pass-insert_entry}
 use Rattle.flat_live.proofs.LaidLaws.{both, and_also}

@@ -1,7 +1,8 @@
 -- What contracts see of the world, and what always holds of it.
-use Rattle.std.specs.Prelude.{◌≡◌, ℕ, ◌+◌, ◌*◌, ◌^◌, ◌≤◌, List, length, sum_by, All}
+use Rattle.std.specs.Prelude.{◌≡◌, ℕ, ◌+◌, ◌*◌, ◌^◌, ◌≤◌, List, length, All}
 use Rattle.argo_model.specs.declared.scripts.Actor.{Actor}
 use Rattle.argo_model.specs.declared.closing.Totals.{Totals}
+use Rattle.argo_model.specs.Rules.Access.{steps_of}
 use Rattle.argo_model.specs.Rules.State.{State}
 use Rattle.flat_world.specs.World.{IsYoung}
 
@@ -10,10 +11,6 @@ pub record WorldAt : Type 0 where
   pub state : State
   pub actors : List Actor
   pub totals : List Totals
-
--- the steps of all sections
-abbrev pub steps_of : List Totals → ℕ
-steps_of totals = sum_by (λ t. t.steps) totals
 
 -- no total is larger than its steps allow
 pub record IsSmall (t : Totals) : Type 0 where

@@ -1,16 +1,18 @@
 //! The world: its domains, who its sections are, and what each of them has done.
 
 ghost use Rattle.std.specs.Prelude.{◌≡◌, ◌-◌, ◌<◌, ◌^◌, IfOk, Some, length, map, slice_get, option_map};
+ghost use Rattle.argo_model.specs.Rules.Access.{steps_of};
 ghost use Rattle.argo_model.specs.Rules.State.{start_state};
 ghost use Rattle.argo_model.specs.Runs.Closed.{closed_domains};
 ghost use Rattle.argo_model.specs.Runs.Final.{final_domain, no_steps, totals_after};
-ghost use Rattle.flat_world.specs.Flat.{IsSmall, steps_of};
+ghost use Rattle.flat_world.specs.Flat.{IsSmall};
 
 use crate::finals::finals_of;
 use crate::world::World;
 use argo_base::NoMemory;
 use argo_model::{
-    Access, Action, Actor, ClosedDomains, FinalDomains, Outcome, Part, Scripts, TotalList, Totals,
+    Access, Action, Actor, ClosedDomains, FinalDomains, Outcome, Part, Scripts, SerialWorld,
+    TotalList, Totals,
 };
 use std::alloc::Global;
 use std::marker::Model;
@@ -57,13 +59,8 @@ impl Access for FlatWorld {
     }
 }
 
-impl FlatWorld {
-    /// The world as a run of the script starts in it.
-    pub fn new(alloc: Global, scripts: &Scripts) -> Result<FlatWorld, NoMemory>
-        ensures state { IfOk result (λ w. w.state ≡ start_state scripts.now.domains) }
-        ensures actors { IfOk result (λ w. w.actors ≡ map (λ x. x.actor) scripts.now.sections) }
-        ensures totals { IfOk result (λ w. w.totals ≡ map (λ x. no_steps) scripts.now.sections) }
-    {
+impl SerialWorld for FlatWorld {
+    fn start(alloc: Global, scripts: &Scripts) -> Result<FlatWorld, NoMemory> {
         let parts = scripts.parts.as_slice();
         Ok(FlatWorld {
             world: World::new(alloc, scripts.domains.as_slice())?,
@@ -73,28 +70,15 @@ impl FlatWorld {
         })
     }
 
-    /// How many steps section `v` has made.
-    pub fn steps(&self, v: u32) -> u64
-        requires { v < length self.now.totals }
-        ensures { option_map (λ t. t.steps) (slice_get self.now.totals v) ≡ Some result }
-    {
+    fn steps(&self, v: u32) -> u64 {
         self.totals[v as usize].steps
     }
 
-    /// The domains as they stand, copied with all that they hold.
-    pub fn closed(&self) -> Result<ClosedDomains, NoMemory>
-        requires { steps_of self.now.totals < 2 ^ 32 - 1 }
-        ensures { IfOk result (λ domains. domains ≡ closed_domains self.now.state) }
-    {
+    fn closed(&self) -> Result<ClosedDomains, NoMemory> {
         self.world.closed(self.alloc)
     }
 
-    /// What a report shows of the domains, and the totals of each section. Where memory runs out, the world is lost.
-    pub fn into_finals(self) -> Result<(FinalDomains, TotalList), NoMemory>
-        requires { steps_of self.totals < 2 ^ 32 - 1 }
-        ensures domains { IfOk result (λ shown. shown.0 ≡ map final_domain self.state) }
-        ensures totals { IfOk result (λ shown. shown.1 ≡ self.totals) }
-    {
+    fn into_finals(self) -> Result<(FinalDomains, TotalList), NoMemory> {
         let FlatWorld {
             world,
             totals,

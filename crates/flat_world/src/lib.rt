@@ -1,6 +1,6 @@
 //! The plain world: domains with flat memories, lists and maps, in which the sections of a script perform their actions.
 //!
-//! The layer above uses `FlatWorld`, an `Access` that tells its state: each action is the rule's. It stands on flat_live.
+//! The layer above uses `FlatWorld`, a `SerialWorld`: it tells its state, and each action is the rule's. It stands on flat_live.
 #![tactic(auto)]
 
 mod acts;

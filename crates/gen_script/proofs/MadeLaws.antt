@@ -2,7 +2,8 @@
 use Rattle.std.proofs.Common.{◌≡◌, ℕ, zero, suc, ◌+◌, ◌-◌, ◌*◌, [], ◌∷◌, ◌++◌, refl, sym, ap, ◌∙◌, arith}
 use Rattle.std.specs.List.{range_with_len, flat_map}
 use Rattle.std.proofs.lemmas.List.{flat_map_more}
-use Rattle.gen_script.specs.Made.{next_number, number_after, opening_lines, round_from, lines_from, round_count, domain_count}
+use Rattle.argo_base.specs.Generator.{next_number, number_after}
+use Rattle.gen_script.specs.Made.{opening_lines, round_from, lines_from, round_count, domain_count}
 
 -- the draws of one after those of another
 pub number_after-sum : (x a b : ℕ) → number_after x (a + b) ≡ number_after (number_after x a) b

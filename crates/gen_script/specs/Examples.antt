@@ -1,7 +1,8 @@
 -- A worked example: the first lines of the scripts of 0.
 use Rattle.std.specs.Prelude.{◌≡◌, [], ◌∷◌, take, replicate}
 use Rattle.argo_model.specs.declared.line.Line.TheVariants.{Store, Op}
-use Rattle.gen_script.specs.Made.{drawn, next_number, lines_from}
+use Rattle.argo_base.specs.Generator.{drawn, next_number}
+use Rattle.gen_script.specs.Made.{lines_from}
 
 -- the first draw is 167951807
 abbrev pub FirstDraw : Type 0

@@ -1,6 +1,7 @@
 -- The scripts that a number makes.
-use Rattle.std.specs.Prelude.{ℕ, zero, suc, ◌+◌, ◌-◌, ◌*◌, ◌/◌, ◌%◌, ◌^◌, List, [], ◌∷◌, ◌++◌, map, replicate}
+use Rattle.std.specs.Prelude.{ℕ, zero, suc, ◌+◌, ◌-◌, ◌*◌, ◌%◌, List, [], ◌∷◌, ◌++◌, map, replicate}
 use Rattle.std.specs.List.{flat_map, range_with_len}
+use Rattle.argo_base.specs.Generator.{number_after, drawn}
 use Rattle.argo_base.specs.Layout.{addr_bytes, send_addr_bytes, iov_bytes}
 use Rattle.argo_base.specs.Limits.{page_bytes, header_bytes}
 use Rattle.argo_base.specs.Match.{wildcard}
@@ -19,19 +20,6 @@ round_count = 200
 -- the slot bytes of a domain's ring: what its one page has behind the ring's header
 abbrev pub ring_bytes : ℕ
 ring_bytes = page_bytes - header_bytes
-
--- the generator's number after this one
-abbrev pub next_number : ℕ → ℕ
-next_number x = (x * 6364136223846793005 + 1442695040888963407) % 2 ^ 64
-
--- the number after so many draws
-abbrev pub number_after : ℕ → ℕ → ℕ
-number_after x zero = x
-number_after x (suc draws) = next_number (number_after x draws)
-
--- what the draw gives that leaves the generator at this number
-abbrev pub drawn : ℕ → ℕ
-drawn x = x / 2 ^ 33
 
 -- the first lines of domain d: a ring for all senders on its page 1, and the bytes that it will send, on its page 2
 abbrev pub opening_lines : ℕ → List Line

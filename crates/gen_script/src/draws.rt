@@ -1,7 +1,9 @@
 //! The generator, one draw after another.
 
 ghost use Rattle.std.specs.Prelude.{◌≡◌};
-ghost use Rattle.gen_script.specs.Made.{next_number, drawn};
+ghost use Rattle.argo_base.specs.Generator as generator;
+
+use argo_base::{drawn, next_number};
 
 /// A linear congruential generator, of whose numbers a draw gives the upper 31 bits.
 #[derive(Drop)]
@@ -11,13 +13,10 @@ pub(crate) struct Draws {
 
 impl Draws {
     pub(crate) fn draw(&mut self) -> u64
-        ensures number { self.new.number ≡ next_number self.old.number }
-        ensures drawn { result ≡ drawn self.new.number }
+        ensures number { self.new.number ≡ generator.next_number self.old.number }
+        ensures drawn { result ≡ generator.drawn self.new.number }
     {
-        self.number = self
-            .number
-            .wrapping_mul(6364136223846793005)
-            .wrapping_add(1442695040888963407);
-        self.number / (1 << 33)
+        self.number = next_number(self.number);
+        drawn(self.number)
     }
 }

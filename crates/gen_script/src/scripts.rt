@@ -2,7 +2,8 @@
 
 ghost use Rattle.std.specs.Prelude.{◌≡◌, ◌<◌, ◌+◌, ◌*◌, ◌%◌, OnOk, IfOk};
 ghost use Rattle.argo_model.specs.Examples.Words.{section};
-ghost use Rattle.gen_script.specs.Made.{round_count, number_after, drawn, lines_from, made};
+ghost use Rattle.argo_base.specs.Generator.{number_after, drawn};
+ghost use Rattle.gen_script.specs.Made.{round_count, lines_from, made};
 
 use crate::draws::Draws;
 use crate::lines::{Round, push_opening, push_round};

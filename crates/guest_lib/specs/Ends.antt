@@ -9,7 +9,7 @@ use Rattle.guest_lib.specs.Receiving.{ended}
 
 -- a fetch with this outcome ends so, whatever its bytes would have led to
 abbrev pub EndsFetch : Outcome → Received → Type 0
-EndsFetch o received = (end : End) (k : List ℕ → Rests) (os : List Outcome) → unless_gone o (if_bytes (end FoundFault) k) os ≡ ended end received
+EndsFetch o received = (end : End) (k : List ℕ → Rests) (os : List Outcome) → unless_gone o (if_bytes (λ os. end FoundFault) k) os ≡ ended end received
 
 -- the put of the rx word with this outcome ends so
 abbrev pub EndsPut : Message → Outcome → Received → Type 0

@@ -7,7 +7,7 @@ use Rattle.std.proofs.lemmas.List.{get_or-map, length-map, map-set}
 use Rattle.std.proofs.lemmas.List.Elements.{All-map, All-set, All-weaker}
 use Rattle.guest_pages.specs.declared.page.Lent.{Lent}
 use Rattle.guest_pages.specs.PageBytes.{HoldsPage}
-use Rattle.guest_pages.specs.Numbers.{all_differ}
+use Rattle.argo_base.specs.Numbers.{all_differ}
 use Rattle.guest_pages.specs.RowInside.{IsRow}
 use Rattle.guest_pages.specs.Rows.{numbered, numbers_of, page_in, with_bytes}
 

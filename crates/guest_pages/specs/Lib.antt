@@ -1,6 +1,5 @@
 pub mod Lending
 pub mod LendingRow
-pub mod Numbers
 pub mod PageBytes
 pub mod Pages
 pub mod PrivateInside

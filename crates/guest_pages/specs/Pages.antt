@@ -2,7 +2,7 @@
 use Rattle.std.specs.Prelude.{ℕ, Bool, ◌&&◌, List, [], ◌∷◌, Option, Some, None, is_some, option_map, unwrap_or, map, slice_set, slice_index_or}
 use Rattle.std.specs.List.{list_all}
 use Rattle.argo_base.specs.Splice.{splice}
-use Rattle.guest_pages.specs.Numbers.{all_differ}
+use Rattle.argo_base.specs.Numbers.{all_differ}
 
 -- the page of a number, where it is one of the domain's and not lent
 abbrev pub page_at : List (Option (List ℕ)) → ℕ → Option (List ℕ)

@@ -2,7 +2,7 @@
 use Rattle.std.specs.Prelude.{List, map, IsTrue}
 use Rattle.std.specs.List.{All}
 use Rattle.guest_pages.specs.declared.page.Lent.{Lent}
-use Rattle.guest_pages.specs.Numbers.{all_differ}
+use Rattle.argo_base.specs.Numbers.{all_differ}
 use Rattle.guest_pages.specs.PageBytes.{HoldsPage}
 
 pub record IsRow (places : List Lent) : Type 0 where

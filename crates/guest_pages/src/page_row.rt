@@ -5,7 +5,7 @@ ghost use Rattle.std.specs.Borrow.{sem};
 ghost use Rattle.argo_base.specs.Limits.{page_bytes};
 ghost use Rattle.argo_base.specs.Splice.{splice};
 ghost use Rattle.guest_pages.specs.LendingRow.{LendsPageAt};
-ghost use Rattle.guest_pages.specs.Numbers.{all_differ};
+ghost use Rattle.argo_base.specs.Numbers.{all_differ};
 ghost use Rattle.guest_pages.specs.Rows.{numbers_of, row_bytes, page_in, with_bytes};
 
 use crate::page::Lent;

@@ -15,7 +15,7 @@ use Rattle.argo_model.specs.Rules.State.{State, Domain, Live, domain_of, has_pag
 use Rattle.argo_model.specs.Rules.Act.{act_if_there, act_if_live}
 use Rattle.argo_model.specs.Rules.Outcomes.{is_gone}
 use Rattle.argo_model.specs.Programs.Asks.{Say, Rests, unless_gone, if_bytes, fetch_all}
-use Rattle.argo_model.specs.Programs.Send.{gather, if_gathered}
+use Rattle.argo_model.specs.Programs.Send.{gather}
 use Rattle.argo_model.specs.Laws.Transitions.{Transition}
 use Rattle.argo_model.specs.Laws.SendCauses.{piece_of, piece_in, found}
 use Rattle.reply_causes.proofs.StepLaws.{Ends, Performs, performs, said, any_gone, befores}
@@ -74,7 +74,7 @@ fetch_all-ends d generation (p ∷ ps) got failed k (t ∷ ts) r h =
       actor = Vcpu d generation
 
       reader : Outcome → Rests
-      reader = if_bytes (Say failed) (λ bs os. fetch_all ps (got ++ bs) (Say failed) k os)
+      reader = if_bytes (λ os. Say failed) (λ bs os. fetch_all ps (got ++ bs) (Say failed) k os)
 
       rest : (o : Outcome) → t.step.outcome ≡ o → Ends actor (λ os. unless_gone o reader os) ts r
       rest o is = let P : Outcome → Type 0 = λ x. Ends actor (λ os. unless_gone x reader os) ts r in subst P is h.1
@@ -118,7 +118,7 @@ gather-ends d generation (p ∷ ps) got n k (t ∷ ts) r h =
       actor = Vcpu d generation
 
       reader : Outcome → Rests
-      reader = if_gathered n k (λ bs os. gather ps (got ++ bs) n k os)
+      reader = if_bytes (k (Faulted n)) (λ bs os. gather ps (got ++ bs) n k os)
 
       rest : (o : Outcome) → t.step.outcome ≡ o → Ends actor (λ os. unless_gone o reader os) ts r
       rest o is = let P : Outcome → Type 0 = λ x. Ends actor (λ os. unless_gone x reader os) ts r in subst P is h.1

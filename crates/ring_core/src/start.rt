@@ -2,8 +2,8 @@
 ghost use Rattle.std.specs.Prelude.{◌≡◌, if◌then◌else◌, length, IsTrue};
 ghost use Rattle.std.specs.List.{All};
 ghost use Rattle.argo_base.specs.Limits.{page_bytes};
+ghost use Rattle.argo_base.specs.SlotBytes as bytes;
 ghost use Rattle.argo_base.specs.Slots.{is_legal, is_place, page_count};
-ghost use Rattle.argo_model.specs.Rules.RingBytes as bytes;
 ghost use Rattle.argo_model.specs.Rules.Starts.{start_place, starts_clean};
 ghost use Rattle.guest_pages.specs.Rows.{numbers_of, row_bytes};
 

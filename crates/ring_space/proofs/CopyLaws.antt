@@ -7,7 +7,7 @@ use Rattle.std.proofs.Math.Nat.{mod-eq_of_lt, add-mod_left}
 use Rattle.argo_base.specs.Splice.{splice}
 use Rattle.argo_base.proofs.SpliceLaws.{length-splice}
 use Rattle.ring_space.specs.Copies.{byte_place, IsWritten, IsRead}
-use Rattle.ring_space.specs.RingSlots.{slots, bytes_from, write_slots}
+use Rattle.argo_base.specs.SlotBytes.{slots, bytes_from, write_slots}
 
 -- ---- the byte at a place of a list
 

@@ -8,7 +8,7 @@ use Rattle.argo_base.specs.Rounds.{written_round}
 use Rattle.argo_base.specs.Splice.{splice}
 use Rattle.argo_base.proofs.SpliceLaws.{splice-splice, length-splice, part-splice}
 use Rattle.guest_pages.specs.Rows.{numbers_of, row_bytes}
-use Rattle.ring_space.specs.RingSlots.{slots, bytes_from, write_slots}
+use Rattle.argo_base.specs.SlotBytes.{slots, bytes_from, write_slots}
 
 -- ---- bytes are written page by page
 

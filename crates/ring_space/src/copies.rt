@@ -2,7 +2,7 @@
 ghost use Rattle.std.specs.Prelude.{ℕ, List, ◌+◌, ◌<◌, ◌≤◌, length, take};
 ghost use Rattle.argo_base.specs.Limits.{header_bytes};
 ghost use Rattle.ring_space.specs.Copies.{IsWritten, IsRead};
-ghost use Rattle.ring_space.specs.RingSlots.{slots, bytes_from, write_slots};
+ghost use Rattle.argo_base.specs.SlotBytes.{slots, bytes_from, write_slots};
 
 /// The words in which `write_run` and `read_run` are told are copies byte by byte, in every ring. It does nothing.
 pub fn copies_are_byte_by_byte()

@@ -5,7 +5,8 @@ ghost use Rattle.argo_base.specs.Rounds.{written_round};
 ghost use Rattle.argo_base.specs.Slots.{is_legal, is_place, page_count};
 ghost use Rattle.argo_base.specs.Splice.{splice};
 ghost use Rattle.guest_pages.specs.Rows.{row_bytes, numbers_of};
-ghost use Rattle.ring_space.specs.RingSlots.{row_slots, bytes_from, write_slots};
+ghost use Rattle.argo_base.specs.SlotBytes.{bytes_from, write_slots};
+ghost use Rattle.ring_space.specs.RowSlots.{row_slots};
 
 use argo_base::PAGE_BYTES;
 use argo_base::slots::page_count;

@@ -2,7 +2,7 @@
 ghost use Rattle.std.specs.Prelude.{◌≡◌, ◌<◌, ◌≤◌, length};
 ghost use Rattle.argo_base.specs.Layout.{u32_at};
 ghost use Rattle.guest_pages.specs.Rows.{row_bytes, numbers_of};
-ghost use Rattle.ring_space.specs.RingSlots.{rx_word, tx_word, write_tx};
+ghost use Rattle.argo_base.specs.SlotBytes.{rx_word, tx_word, write_tx};
 
 use guest_pages::PageRow;
 

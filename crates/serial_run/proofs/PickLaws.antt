@@ -8,7 +8,8 @@ use Rattle.std.proofs.lemmas.Option.{slice_get-get_or, slice_get_within}
 use Rattle.argo_model.specs.Runs.Script.{Script}
 use Rattle.argo_model.specs.Runs.Run.{run, Course, is_open, is_finished}
 use Rattle.argo_machine.proofs.RunLaws.{none_unfinished, run-sections}
-use Rattle.serial_run.specs.Picks.{next_number, number_after, place_by, open_sections, next_pick, EachIsPick}
+use Rattle.argo_base.specs.Generator.{next_number, number_after}
+use Rattle.serial_run.specs.Picks.{place_by, open_sections, next_pick, EachIsPick}
 
 cond-append : (b : Bool) (x : ℕ) (xs ys : List ℕ) → cond b (x ∷ (xs ++ ys)) (xs ++ ys) ≡ cond b (x ∷ xs) xs ++ ys
 cond-append true x xs ys = refl

@@ -7,7 +7,8 @@ use Rattle.std.proofs.lemmas.Option.{slice_get-get_or, slice_get_within, slice_g
 use Rattle.argo_model.specs.Runs.Script.{Script}
 use Rattle.argo_model.specs.Runs.Run.{run, Course, Progress, is_open, is_unfinished, is_finished, has_lines}
 use Rattle.argo_machine.proofs.TestLaws.{both}
-use Rattle.serial_run.specs.Picks.{number_after, place_by, open_sections, next_pick, EachIsPick, ArePicks, PicksAreUnique}
+use Rattle.argo_base.specs.Generator.{number_after}
+use Rattle.serial_run.specs.Picks.{place_by, open_sections, next_pick, EachIsPick, ArePicks, PicksAreUnique}
 
 take-one : (xs : List ℕ) (k x : ℕ) → slice_get xs k ≡ Some x → take (suc k) xs ≡ take k xs ++ x ∷ []
 take-one [] k x here = let none = slice_get_within [] k x here in absurd (omega (arith, none))

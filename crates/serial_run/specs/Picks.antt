@@ -1,23 +1,15 @@
 -- The picks of a seed: which section takes each step of a serial run.
-use Rattle.std.specs.Prelude.{◌≡◌, ℕ, zero, suc, ◌+◌, ◌*◌, ◌^◌, ◌/◌, ◌%◌, ◌<◌, ◌==◌, List, length, take, filter, slice_get, Option, if◌then◌else◌}
+use Rattle.std.specs.Prelude.{◌≡◌, ℕ, ◌+◌, ◌%◌, ◌<◌, ◌==◌, List, length, take, filter, slice_get, Option, if◌then◌else◌}
 use Rattle.std.specs.List.{range_with_len}
+use Rattle.argo_base.specs.Generator.{number_after, drawn}
 use Rattle.argo_model.specs.declared.closing.Final.{Final}
 use Rattle.argo_model.specs.Runs.Script.{Script}
 use Rattle.argo_model.specs.Runs.Run.{Course, run, is_open, IsComplete}
 use Rattle.argo_model.specs.Runs.Final.{final_of}
 
--- the generator's number after this one
-abbrev pub next_number : ℕ → ℕ
-next_number x = (x * 6364136223846793005 + 1442695040888963407) % 2 ^ 64
-
--- the number after so many turns of the generator
-abbrev pub number_after : ℕ → ℕ → ℕ
-number_after seed zero = seed
-number_after seed (suc turns) = next_number (number_after seed turns)
-
 -- the place of the pick among so many open sections, from 0. The seed 0 always picks the first
 abbrev pub place_by : ℕ → ℕ → ℕ → ℕ
-place_by seed number count = if seed == 0 then 0 else number / 2 ^ 33 % count
+place_by seed number count = if seed == 0 then 0 else drawn number % count
 
 -- the sections that have a line left, in rising order
 abbrev pub open_sections : Course → List ℕ

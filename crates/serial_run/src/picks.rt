@@ -1,5 +1,8 @@
 ghost use Rattle.std.specs.Prelude.{◌≡◌, ◌<◌};
-ghost use Rattle.serial_run.specs.Picks.{next_number, place_by};
+ghost use Rattle.argo_base.specs.Generator as generator;
+ghost use Rattle.serial_run.specs.Picks.{place_by};
+
+use argo_base::{drawn, next_number};
 
 /// The generator that picks the section of each step.
 #[derive(Clone, Copy)]
@@ -20,17 +23,14 @@ impl Picks {
     pub(crate) fn next_place(&mut self, count: usize) -> usize
         requires { 0 < count }
         ensures seed { self.new.seed ≡ self.old.seed }
-        ensures number { self.new.number ≡ next_number self.old.number }
+        ensures number { self.new.number ≡ generator.next_number self.old.number }
         ensures place { result ≡ place_by self.old.seed self.new.number count }
         ensures inside { result < count }
     {
-        self.number = self
-            .number
-            .wrapping_mul(6364136223846793005)
-            .wrapping_add(1442695040888963407);
+        self.number = next_number(self.number);
         if self.seed == 0 {
             return 0;
         }
-        (self.number / (1 << 33)) as usize % count
+        drawn(self.number) as usize % count
     }
 }

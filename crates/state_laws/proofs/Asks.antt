@@ -9,7 +9,7 @@ use Rattle.argo_model.specs.declared.action.Action.{Action}
 use Rattle.argo_model.specs.declared.action.Action.TheVariants.{Rest, Fetch, Put}
 use Rattle.argo_model.specs.declared.action.Outcome.{Outcome}
 use Rattle.argo_model.specs.declared.action.Outcome.TheVariants.{Done, Bytes, Fault, Refused, Accepted, Swept, NoMore, Answer, Flag, Gone}
-use Rattle.argo_model.specs.Programs.Asks.{Next, Do, Say, Rests, ask, if_done, if_bytes, put_all, fetch_all, refusal, refuse_if, refuse_at_once, refuse_at_once_if, read, say_done}
+use Rattle.argo_model.specs.Programs.Asks.{Next, Do, Say, Rests, ask, if_done, if_bytes, put_all, collect, fetch_all, refusal, refuse_if, refuse_at_once, refuse_at_once_if, read, say_done}
 use Rattle.state_laws.specs.Each.{Each}
 use Rattle.state_laws.proofs.StateActs.{Lies}
 
@@ -50,17 +50,17 @@ lie_done failed k f h (Answer a) os = f
 lie_done failed k f h (Flag b) os = f
 lie_done failed k f h Gone os = f
 
-pub lie_bytes : (failed : Next) (k : List ℕ → Rests) → IsLying failed → ((bs : List ℕ) → Lie (k bs)) → LieAfter (if_bytes failed k)
-lie_bytes failed k f h Done os = f
+pub lie_bytes : (failed : Rests) (k : List ℕ → Rests) → Lie failed → ((bs : List ℕ) → Lie (k bs)) → LieAfter (if_bytes failed k)
+lie_bytes failed k f h Done os = f os
 lie_bytes failed k f h (Bytes bs) os = h bs os
-lie_bytes failed k f h Fault os = f
-lie_bytes failed k f h (Refused e) os = f
-lie_bytes failed k f h (Accepted n) os = f
-lie_bytes failed k f h (Swept n) os = f
-lie_bytes failed k f h NoMore os = f
-lie_bytes failed k f h (Answer a) os = f
-lie_bytes failed k f h (Flag b) os = f
-lie_bytes failed k f h Gone os = f
+lie_bytes failed k f h Fault os = f os
+lie_bytes failed k f h (Refused e) os = f os
+lie_bytes failed k f h (Accepted n) os = f os
+lie_bytes failed k f h (Swept n) os = f os
+lie_bytes failed k f h NoMore os = f os
+lie_bytes failed k f h (Answer a) os = f os
+lie_bytes failed k f h (Flag b) os = f os
+lie_bytes failed k f h Gone os = f os
 
 -- ---- pieces
 
@@ -85,11 +85,14 @@ lie_put_all (p ∷ ps) bytes failed k fit f h os =
       short : p.off + p.n ≤ 4096 → p.off + length (take p.n bytes) ≤ 4096
       short in_page = omega (arith, length-take p.n bytes)
 
+pub lie_collect : (ps : List Piece) (got : List ℕ) (failed : Rests) (k : List ℕ → Rests) → Lie failed → ((bs : List ℕ) → Lie (k bs)) → Lie (collect ps got failed k)
+lie_collect [] got failed k f h os = h got os
+lie_collect (p ∷ ps) got failed k f h os =
+    lie_ask (Fetch p.page p.off p.n) (if_bytes failed (λ bs os. collect ps (got ++ bs) failed k os)) tt
+    (lie_bytes failed (λ bs os. collect ps (got ++ bs) failed k os) f (λ bs. lie_collect ps (got ++ bs) failed k f h)) os
+
 pub lie_fetch_all : (ps : List Piece) (got : List ℕ) (failed : Next) (k : List ℕ → Rests) → IsLying failed → ((bs : List ℕ) → Lie (k bs)) → Lie (fetch_all ps got failed k)
-lie_fetch_all [] got failed k f h os = h got os
-lie_fetch_all (p ∷ ps) got failed k f h os =
-    lie_ask (Fetch p.page p.off p.n) (if_bytes failed (λ bs os. fetch_all ps (got ++ bs) failed k os)) tt
-    (lie_bytes failed (λ bs os. fetch_all ps (got ++ bs) failed k os) f (λ bs. lie_fetch_all ps (got ++ bs) failed k f h)) os
+lie_fetch_all ps got failed k f h = lie_collect ps got (λ os. failed) k (λ os. f) h
 
 pub lie_read : (at n : ℕ) (k : List ℕ → Rests) → ((bs : List ℕ) → Lie (k bs)) → Lie (read at n k)
 lie_read at n k h = lie_fetch_all (pieces at n) [] (refusal efault) k tt h

@@ -26,10 +26,10 @@ use Rattle.argo_model.specs.Rules.Limits.{most_rings, most_entries}
 use Rattle.argo_model.specs.Programs.Asks.{Say, Rests, ask, fetch_all, refusal, refuse_if, read, say_done}
 use Rattle.argo_model.specs.Programs.Program.{if_flag, await, Command, RegisterRing, UnregisterRing, SendV, Notify, Unknown, command_of, op, caller_of, program}
 use Rattle.argo_model.specs.Programs.Register.{register_pages, is_register_head, register_head, register_ring, unregister_head, has_more, unregister_ring}
-use Rattle.argo_model.specs.Programs.Send.{if_gathered, gather, say_accepted, send_load, send_judged, send_iovs, is_send_addr, is_own_source, send_head, sendv}
+use Rattle.argo_model.specs.Programs.Send.{gather, say_accepted, send_load, send_judged, send_iovs, is_send_addr, is_own_source, send_head, sendv}
 use Rattle.argo_model.specs.Programs.Notify.{if_swept, sweep_rings, if_answered, answer_entry, answer_entries, entries_at, notify_head, notify_entries, notify}
 use Rattle.argo_model.specs.Programs.Recv.{Found, FoundMessage, FoundEmpty, FoundBad, FoundFault, end_if, slot_pieces, take_slots, message_of, recv_body, is_message_size, recv_head, recv_words, recv_tx, say_found, recv}
-use Rattle.state_laws.proofs.Asks.{IsLying, Lie, LieAfter, lie_ask, pieces_in_page, lie_put_all, lie_fetch_all, lie_read, lie_if, lie_at_once, lie_at_once_if, lie_say_done}
+use Rattle.state_laws.proofs.Asks.{IsLying, Lie, LieAfter, lie_ask, pieces_in_page, lie_put_all, lie_collect, lie_fetch_all, lie_read, lie_if, lie_at_once, lie_at_once_if, lie_say_done}
 
 -- ---- register and unregister
 
@@ -63,23 +63,8 @@ lie_unregister a1 a2 a3 a4 =
 
 -- ---- sendv
 
-lie_gathered : (n : ℕ) (k : Gathered → Rests) (more : List ℕ → Rests) → ((l : Gathered) → Lie (k l)) → ((bs : List ℕ) → Lie (more bs)) → LieAfter (if_gathered n k more)
-lie_gathered n k more h g Done os = h (Faulted n) os
-lie_gathered n k more h g (Bytes bs) os = g bs os
-lie_gathered n k more h g Fault os = h (Faulted n) os
-lie_gathered n k more h g (Refused e) os = h (Faulted n) os
-lie_gathered n k more h g (Accepted m) os = h (Faulted n) os
-lie_gathered n k more h g (Swept m) os = h (Faulted n) os
-lie_gathered n k more h g NoMore os = h (Faulted n) os
-lie_gathered n k more h g (Answer a) os = h (Faulted n) os
-lie_gathered n k more h g (Flag b) os = h (Faulted n) os
-lie_gathered n k more h g Gone os = h (Faulted n) os
-
 lie_gather : (ps : List Piece) (got : List ℕ) (n : ℕ) (k : Gathered → Rests) → ((l : Gathered) → Lie (k l)) → Lie (gather ps got n k)
-lie_gather [] got n k h os = h (Body got) os
-lie_gather (p ∷ ps) got n k h os =
-    lie_ask (Fetch p.page p.off p.n) (if_gathered n k (λ bs os. gather ps (got ++ bs) n k os)) tt
-    (lie_gathered n k (λ bs os. gather ps (got ++ bs) n k os) h (λ bs. lie_gather ps (got ++ bs) n k h)) os
+lie_gather ps got n k h = lie_collect ps got (k (Faulted n)) (λ body. k (Body body)) (h (Faulted n)) (λ body. h (Body body))
 
 lie_accepted : LieAfter say_accepted
 lie_accepted Done os = tt

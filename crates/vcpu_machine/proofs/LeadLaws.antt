@@ -20,7 +20,7 @@ use Rattle.vcpu_machine.specs.Cursor.{pieces_left, IsSound}
 use Rattle.vcpu_machine.specs.Text.{text_of, after_put, if_not_put, IsText, most_after_put}
 use Rattle.vcpu_machine.specs.Reader.{after_read, after_fault, most_after}
 use Rattle.vcpu_machine.specs.Followed.{Leads, Reads}
-use Rattle.vcpu_machine.proofs.RangeLaws.{fetch_all-collects, collect-same, pieces-within}
+use Rattle.vcpu_machine.proofs.RangeLaws.{collect-same, pieces-within}
 
 -- two programs that do the same lead to the same
 pub leads_by : (k j : Rests) (most : ℕ) (o : Followed) → ((os : List Outcome) → k os ≡ j os) → Leads j most o → Leads k most o
@@ -54,7 +54,6 @@ pub reads_lead : (ps : List Piece) (at n : ℕ) (reader : Reader) (phase : Phase
 reads_lead ps at n reader phase failed k most same falls goes within h = record {
   rest = λ line os.
       ap (λ qs. fetch_all qs [] failed k os) (sym same)
-      ∙ fetch_all-collects ps [] failed k os
       ∙ collect-same ps [] (λ os. failed) (after_fault reader) k (after_read reader) falls goes os
       ∙ h.rest line os;
   ready = h.ready;

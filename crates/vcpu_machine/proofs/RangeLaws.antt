@@ -6,18 +6,14 @@ use Rattle.argo_base.proofs.PieceLaws.{pieces-first, length-pieces, short_touche
 use Rattle.vcpu_machine.specs.declared.cursor.Cursor.{Cursor}
 use Rattle.argo_model.specs.declared.action.Action.{Action}
 use Rattle.argo_model.specs.declared.action.Action.TheVariants.{Fetch}
-use Rattle.argo_model.specs.declared.action.Load.{Load}
-use Rattle.argo_model.specs.declared.action.Load.TheVariants.{Body, Faulted}
 use Rattle.argo_model.specs.declared.action.Outcome.{Outcome}
 use Rattle.argo_model.specs.declared.action.Outcome.TheVariants.{Done, Bytes, Fault, Refused, Accepted, Swept, NoMore, Answer, Flag, Gone}
 use Rattle.argo_base.specs.Pieces.{pieces, pages_touched}
 use Rattle.argo_model.specs.Runs.Script.{is_short}
 use Rattle.vcpu_machine.specs.Cursor.{pieces_left, IsSound}
 use Rattle.argo_model.specs.Rules.Outcomes.{can_have}
-use Rattle.vcpu_machine.specs.Ranges.{collect, GivesFirst}
-use Rattle.argo_model.specs.Programs.Program.{Next, Do, Rests, put_all, fetch_all}
-use Rattle.argo_model.specs.Programs.Send.{gather}
-use Rattle.argo_model.specs.Programs.Asks.{CanFollow}
+use Rattle.vcpu_machine.specs.Ranges.{GivesFirst}
+use Rattle.argo_model.specs.Programs.Asks.{Next, Do, Rests, CanFollow, collect, put_all}
 use Rattle.vcpu_machine.specs.Phase.{takes_none}
 
 -- an outcome other than `Done` and `Gone` ends a put
@@ -92,38 +88,6 @@ collect-takes c got failed k some sound = ap (λ ps. takes_none (collect ps got 
 
 pub some_piece : (c : Cursor) → 0 < c.left → IsSound c → 0 < length (pieces_left c)
 some_piece c some sound = rw (pieces-first c.page c.off c.left sound.inside some) (omega arith)
-
--- a fetch of several pieces collects their bytes, and fails with its reply
-pub fetch_all-collects : (ps : List Piece) (got : List ℕ) (failed : Next) (k : List ℕ → Rests) (os : List Outcome)
-    → fetch_all ps got failed k os ≡ collect ps got (λ os. failed) k os
-fetch_all-collects [] got failed k os = refl
-fetch_all-collects (p ∷ ps) got failed k [] = refl
-fetch_all-collects (p ∷ ps) got failed k (Done ∷ os) = refl
-fetch_all-collects (p ∷ ps) got failed k (Bytes bs ∷ os) = fetch_all-collects ps (got ++ bs) failed k os
-fetch_all-collects (p ∷ ps) got failed k (Fault ∷ os) = refl
-fetch_all-collects (p ∷ ps) got failed k (Refused e ∷ os) = refl
-fetch_all-collects (p ∷ ps) got failed k (Accepted n ∷ os) = refl
-fetch_all-collects (p ∷ ps) got failed k (Swept n ∷ os) = refl
-fetch_all-collects (p ∷ ps) got failed k (NoMore ∷ os) = refl
-fetch_all-collects (p ∷ ps) got failed k (Answer a ∷ os) = refl
-fetch_all-collects (p ∷ ps) got failed k (Flag b ∷ os) = refl
-fetch_all-collects (p ∷ ps) got failed k (Gone ∷ os) = refl
-
--- and a gather fails with its load
-pub gather-collects : (ps : List Piece) (got : List ℕ) (n : ℕ) (k : Load → Rests) (os : List Outcome)
-    → gather ps got n k os ≡ collect ps got (k (Faulted n)) (λ bs. k (Body bs)) os
-gather-collects [] got n k os = refl
-gather-collects (p ∷ ps) got n k [] = refl
-gather-collects (p ∷ ps) got n k (Done ∷ os) = refl
-gather-collects (p ∷ ps) got n k (Bytes bs ∷ os) = gather-collects ps (got ++ bs) n k os
-gather-collects (p ∷ ps) got n k (Fault ∷ os) = refl
-gather-collects (p ∷ ps) got n k (Refused e ∷ os) = refl
-gather-collects (p ∷ ps) got n k (Accepted m ∷ os) = refl
-gather-collects (p ∷ ps) got n k (Swept m ∷ os) = refl
-gather-collects (p ∷ ps) got n k (NoMore ∷ os) = refl
-gather-collects (p ∷ ps) got n k (Answer a ∷ os) = refl
-gather-collects (p ∷ ps) got n k (Flag b ∷ os) = refl
-gather-collects (p ∷ ps) got n k (Gone ∷ os) = refl
 
 -- two ranges are collected one after the other
 pub collect-append : (ps qs : List Piece) (got : List ℕ) (failed : Rests) (k : List ℕ → Rests) (os : List Outcome)

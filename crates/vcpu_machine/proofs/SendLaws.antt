@@ -19,11 +19,11 @@ use Rattle.vcpu_machine.specs.declared.reads.SendRead.TheVariants.{Body}
 use Rattle.argo_model.specs.Programs.Send.{gather, send_judged}
 use Rattle.vcpu_machine.specs.Cursor.{pieces_left, IsSound}
 use Rattle.argo_model.specs.Rules.Fit.{is_verdict}
-use Rattle.vcpu_machine.specs.Ranges.{collect}
+use Rattle.argo_model.specs.Programs.Asks.{collect}
 use Rattle.vcpu_machine.specs.Reader.{after_read}
 use Rattle.vcpu_machine.specs.Sending.{deliver_to, send_judged_to, iovs_left, bytes_of, IsFirstBuffer, IsGather}
 use Rattle.vcpu_machine.specs.Followed.{Leads}
-use Rattle.vcpu_machine.proofs.RangeLaws.{gather-collects, collect-append, collect-same, pieces-within}
+use Rattle.vcpu_machine.proofs.RangeLaws.{collect-append, collect-same, pieces-within}
 
 -- the verdict is one of two refusals
 refused_judged : (n : ℕ) (vs : List Iov) (e : Errno) → judged n vs ≡ Err e → IsTrue (is_verdict e)
@@ -81,10 +81,9 @@ buffer_leads g c place v got ready first same left sound size =
     record {
       rest = λ line os.
           ap (λ xs. gather xs got.items g.size k os) parts
-          ∙ gather-collects (ps ++ qs) got.items g.size k os
           ∙ collect-append ps qs got.items (k (Faulted g.size)) (λ bs. k (BodyLoad bs)) os
           ∙ collect-same ps got.items (k (Faulted g.size)) (k (Faulted g.size)) (λ bs os. collect qs bs (k (Faulted g.size)) (λ bs. k (BodyLoad bs)) os) (after_read (Send (Body later)))
-          (λ os. refl) (λ bs os. sym (gather-collects qs bs g.size k os)) os;
+          (λ os. refl) (λ bs os. refl) os;
       ready = λ line. record {
         some = let some = first.some in omega arith;
         sound = sound;

@@ -14,7 +14,7 @@ use Rattle.vcpu_machine.specs.declared.phase.Reader.{Reader}
 use Rattle.argo_model.specs.declared.line.Line.{Line}
 use Rattle.argo_model.specs.declared.action.Outcome.{Outcome}
 use Rattle.argo_model.specs.Programs.Asks.{Say, Rests}
-use Rattle.vcpu_machine.specs.Ranges.{collect}
+use Rattle.argo_model.specs.Programs.Asks.{collect}
 use Rattle.vcpu_machine.specs.Reader.{after_read, after_fault, most_after}
 use Rattle.vcpu_machine.specs.Phase.{rest_of, IsAtPhase, phase_left}
 

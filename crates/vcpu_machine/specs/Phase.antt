@@ -13,7 +13,8 @@ use Rattle.argo_model.specs.declared.action.Action.TheVariants.{Rest, Look, Swee
 use Rattle.argo_model.specs.declared.action.Outcome.{Outcome}
 use Rattle.argo_model.specs.declared.reply.Reply.{Reply}
 use Rattle.argo_model.specs.Runs.Script.{is_vcpu_line, is_control_line}
-use Rattle.vcpu_machine.specs.Ranges.{last_of, collect}
+use Rattle.argo_model.specs.Programs.Asks.{collect}
+use Rattle.vcpu_machine.specs.Ranges.{last_of}
 use Rattle.argo_model.specs.Programs.Program.{Next, Do, Say, Rests, ask, put_all, if_flag, await, program}
 use Rattle.argo_model.specs.Programs.Recv.{say_found}
 use Rattle.guest_lib.specs.Receiving.{ahead, IsUnderWay, left_of}

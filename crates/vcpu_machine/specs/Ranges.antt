@@ -7,27 +7,14 @@ use Rattle.vcpu_machine.specs.declared.ranges.Moved.{Moved}
 use Rattle.vcpu_machine.specs.declared.ranges.Moved.TheVariants.{More, Whole, Failed, Ended}
 use Rattle.argo_model.specs.declared.reply.Reply.TheVariants.{Gone}
 use Rattle.argo_model.specs.declared.action.Action.{Action}
-use Rattle.argo_model.specs.declared.action.Action.TheVariants.{Fetch}
 use Rattle.argo_model.specs.declared.action.Outcome.{Outcome}
 use Rattle.argo_model.specs.declared.action.Outcome.TheVariants.{Bytes}
 use Rattle.vcpu_machine.specs.Cursor.{pieces_left, IsSound}
-use Rattle.argo_model.specs.Programs.Program.{Next, Do, Say, Rests, ask, put_all}
+use Rattle.argo_model.specs.Programs.Asks.{Next, Do, Say, Rests, collect, put_all}
 
 -- the last n of the bytes
 abbrev pub last_of : ℕ → List ℕ → List ℕ
 last_of n bytes = drop (length bytes - n) bytes
-
--- a fetch gives bytes, or what follows a failure follows
-abbrev pub if_collected : Rests → (List ℕ → Rests) → Outcome → Rests
-if_collected failed k (Bytes bs) os = k bs os
-if_collected failed k o os = failed os
-
--- fetches the pieces, one after another, and goes on with all their bytes, or with the failure. Both `fetch_all` and `gather`
--- are this
-abbrev pub collect : List Piece → List ℕ → Rests → (List ℕ → Rests) → Rests
-collect [] got failed k os = k got os
-collect (p ∷ ps) got failed k os =
-    ask (Fetch p.page p.off p.n) (if_collected failed (λ bs os. collect ps (got ++ bs) failed k os)) os
 
 -- this is the fetch of the first piece of a range, whatever comes after it
 abbrev pub FetchesFirst : Cursor → Action → Type 0

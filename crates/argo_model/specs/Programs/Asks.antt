@@ -50,10 +50,10 @@ abbrev pub if_done : Next → Rests → Outcome → Rests
 if_done failed k Done os = k os
 if_done failed k o os = failed
 
--- a fetch gives bytes, or it ends the line with this reply
-abbrev pub if_bytes : Next → (List ℕ → Rests) → Outcome → Rests
+-- a fetch gives bytes, or what follows a failure follows
+abbrev pub if_bytes : Rests → (List ℕ → Rests) → Outcome → Rests
 if_bytes failed k (Bytes bs) os = k bs os
-if_bytes failed k o os = failed
+if_bytes failed k o os = failed os
 
 -- puts the bytes into the pieces, one after another
 abbrev pub put_all : List Piece → List ℕ → Next → Rests → Rests
@@ -61,11 +61,15 @@ put_all [] bytes failed k os = k os
 put_all (p ∷ ps) bytes failed k os =
     ask (Put p.page p.off (take p.n bytes)) (if_done failed (λ os. put_all ps (drop p.n bytes) failed k os)) os
 
--- fetches the pieces, one after another, and goes on with all their bytes
+-- fetches the pieces, one after another, and goes on with all their bytes, or with what follows a failure
+abbrev pub collect : List Piece → List ℕ → Rests → (List ℕ → Rests) → Rests
+collect [] got failed k os = k got os
+collect (p ∷ ps) got failed k os =
+    ask (Fetch p.page p.off p.n) (if_bytes failed (λ bs os. collect ps (got ++ bs) failed k os)) os
+
+-- the same, where a failure ends the line with this reply
 abbrev pub fetch_all : List Piece → List ℕ → Next → (List ℕ → Rests) → Rests
-fetch_all [] got failed k os = k got os
-fetch_all (p ∷ ps) got failed k os =
-    ask (Fetch p.page p.off p.n) (if_bytes failed (λ bs os. fetch_all ps (got ++ bs) failed k os)) os
+fetch_all ps got failed k os = collect ps got (λ os. failed) k os
 
 -- a hypercall's refusal: minus the number of the error
 abbrev pub refusal : Errno → Next

@@ -6,23 +6,18 @@ use Rattle.argo_base.specs.declared.piece.Piece.{Piece}
 use Rattle.argo_base.specs.Layout.{u16_at, u32_at}
 use Rattle.argo_base.specs.Match.{is_wildcard}
 use Rattle.argo_base.specs.Iovs.{Iov, iovs_at, verdict_of, gathered_pieces}
-use Rattle.argo_model.specs.declared.action.Action.TheVariants.{Fetch, Deliver}
+use Rattle.argo_model.specs.declared.action.Action.TheVariants.{Deliver}
 use Rattle.argo_model.specs.declared.action.Load.{Load}
 use Rattle.argo_model.specs.declared.action.Load.TheVariants.{Body, Faulted, Refused as RefusedLoad}
 use Rattle.argo_model.specs.declared.action.Outcome.{Outcome}
-use Rattle.argo_model.specs.declared.action.Outcome.TheVariants.{Bytes, Refused, Accepted}
+use Rattle.argo_model.specs.declared.action.Outcome.TheVariants.{Refused, Accepted}
 use Rattle.argo_model.specs.declared.reply.Reply.TheVariants.{Number}
-use Rattle.argo_model.specs.Programs.Asks.{Say, Rests, ask, read, refusal, refuse_if, refuse_at_once_if}
+use Rattle.argo_model.specs.Programs.Asks.{Say, Rests, ask, collect, read, refusal, refuse_if, refuse_at_once_if}
 
--- a fetch of the gather gives bytes, or a fault ends the gather of n bytes
-abbrev pub if_gathered : ℕ → (Load → Rests) → (List ℕ → Rests) → Outcome → Rests
-if_gathered n k more (Bytes bs) os = more bs os
-if_gathered n k more o os = k (Faulted n) os
-
--- fetches the pieces of a body of n bytes, one after another, and goes on with the load
+-- fetches the pieces of a body of n bytes, one after another, and goes on with the load: a page that is not there ends the gather,
+-- not the line
 abbrev pub gather : List Piece → List ℕ → ℕ → (Load → Rests) → Rests
-gather [] got n k os = k (Body got) os
-gather (p ∷ ps) got n k os = ask (Fetch p.page p.off p.n) (if_gathered n k (λ bs os. gather ps (got ++ bs) n k os)) os
+gather ps got n k os = collect ps got (k (Faulted n)) (λ body. k (Body body)) os
 
 -- replies the size of the body that was accepted, or the refusal
 abbrev pub say_accepted : Outcome → Rests

@@ -1,5 +1,5 @@
 -- What an access to a world shows of an action of a section.
-use Rattle.std.specs.Prelude.{◌≡◌, ℕ, ◌^◌, Bool, false, nat_lt, List, slice_get, slice_set, Option, Some, None}
+use Rattle.std.specs.Prelude.{◌≡◌, ℕ, ◌^◌, Bool, false, nat_lt, List, slice_get, slice_set, sum_by, Option, Some, None}
 use Rattle.argo_model.specs.declared.action.Action.{Action}
 use Rattle.argo_model.specs.declared.action.Outcome.{Outcome}
 use Rattle.argo_model.specs.declared.scripts.Actor.{Actor}
@@ -45,3 +45,7 @@ counted_of ts v o (Some t) = slice_set ts v (totals_after t o)
 -- the totals after an action of section v with this outcome: a step more, and what an accepted message counts
 abbrev pub counted_at : List Totals → ℕ → Outcome → List Totals
 counted_at ts v o = counted_of ts v o (slice_get ts v)
+
+-- the steps of all sections
+abbrev pub steps_of : List Totals → ℕ
+steps_of totals = sum_by (λ t. t.steps) totals

@@ -1,12 +1,9 @@
 -- When slot bytes hold messages, whole and in order.
-use Rattle.std.specs.Prelude.{◌≡◌, ℕ, ◌<◌, List, [], ◌∷◌, ◌++◌, length, take, drop, sum_by}
+use Rattle.std.specs.Prelude.{◌≡◌, ℕ, ◌<◌, List, [], ◌∷◌, length, take, sum_by}
 use Rattle.argo_base.specs.declared.message.Message.{Message}
+pub use Rattle.argo_base.specs.SlotBytes.{bytes_from}
 use Rattle.argo_base.specs.Slots.{place_after}
 use Rattle.argo_model.specs.Rules.Messages.{spell, room_of}
-
--- the slot bytes from a place on, round the ring's end
-abbrev pub bytes_from : ℕ → List ℕ → List ℕ
-bytes_from at slots = drop at slots ++ take at slots
 
 -- from a place to another the slots spell the messages, each where the room of the one before it ends
 abbrev pub HoldsFrom : List ℕ → ℕ → ℕ → ℕ → List Message → Type 0

@@ -1,5 +1,5 @@
 -- A ring is registered, or registered anew, or taken away.
-use Rattle.std.specs.Prelude.{ℕ, ◌+◌, Bool, true, ◌&&◌, not, ◌==◌, nat_le, if◌then◌else◌, List, [], ◌∷◌, length, filter, is_some, Option, Some, None}
+use Rattle.std.specs.Prelude.{ℕ, ◌+◌, Bool, true, ◌&&◌, not, ◌==◌, nat_le, if◌then◌else◌, List, [], length, filter, is_some, Option, Some, None}
 use Rattle.std.specs.List.{list_all, list_any}
 use Rattle.std.specs.Str.{bytes_eq}
 use Rattle.std.specs.Map.{lookup, remove_entry}
@@ -11,6 +11,7 @@ use Rattle.argo_model.specs.declared.action.Outcome.TheVariants.{Done}
 use Rattle.argo_model.specs.Rules.State.{State, Domain, Live, Ring, is_alive, is_on, has_page}
 use Rattle.argo_model.specs.Rules.Limits.{most_rings}
 use Rattle.argo_base.specs.Notices.{Notices, never_fits, doms_of}
+pub use Rattle.argo_base.specs.Numbers.{has_number, all_differ}
 use Rattle.argo_model.specs.Rules.Effects.{Change, Effect, answered, leaving, refuse_if, lifted, change_in}
 use Rattle.argo_model.specs.Rules.RingBytes.{PagedRing, paged, laid, set_paged}
 use Rattle.argo_model.specs.Rules.Starts.{started}
@@ -21,15 +22,6 @@ own_ring live key = lookup (is_at (key_cmp key)) live.rings
 
 abbrev pub has_ring : Live → RingKey → Bool
 has_ring live key = is_some (own_ring live key)
-
--- a number stands in the list
-abbrev pub has_number : List ℕ → ℕ → Bool
-has_number xs n = list_any (λ x. x == n) xs
-
--- no number comes twice
-abbrev pub all_differ : List ℕ → Bool
-all_differ [] = true
-all_differ (x ∷ xs) = not (has_number xs x) && all_differ xs
 
 -- a page that the ring may stand on: the caller has it, and no other ring of the caller stands on it
 abbrev pub is_free_for : Live → RingKey → ℕ → Bool

@@ -1,13 +1,12 @@
--- The bytes of a ring, one list: those of its pages, one page after another. The rx word and the tx word come first, and the
--- slots follow the 64 bytes of the header. Each act on a ring is told on the ring with these bytes, and laid back into its
--- owner's memory.
-use Rattle.std.specs.Prelude.{ℕ, ◌+◌, ◌-◌, ◌*◌, ◌==◌, Bool, List, [], ◌∷◌, take, drop, flat_map}
+-- The bytes of a ring, one list: those of its pages, one page after another. Each act on a ring is told on the ring with these
+-- bytes, and laid back into its owner's memory.
+use Rattle.std.specs.Prelude.{ℕ, ◌*◌, ◌==◌, Bool, List, [], ◌∷◌, take, drop, flat_map}
 use Rattle.std.specs.Map.{set_value}
 use Rattle.std.specs.BTreeMap.{is_at}
 use Rattle.argo_base.specs.declared.ring_key.RingKey.{RingKey}
-use Rattle.argo_base.specs.Layout.{u32_at, u32_bytes}
 use Rattle.argo_base.specs.Match.{key_cmp}
 use Rattle.argo_base.specs.Notices.{Notices}
+pub use Rattle.argo_base.specs.SlotBytes.{rx_word, tx_word, write_tx, slots, write_slots}
 use Rattle.argo_base.specs.Slots.{sanitised, span}
 use Rattle.argo_base.specs.Splice.{splice}
 use Rattle.argo_model.specs.Rules.State.{Ring, Live}
@@ -39,29 +38,9 @@ set_paged live key p =
 abbrev pub with_notices : PagedRing → Notices → PagedRing
 with_notices p notices = record p { ring = record p.ring { notices = notices } }
 
--- the word by which the receiver says how far it has read
-abbrev pub rx_word : List ℕ → ℕ
-rx_word own = u32_at own 0
-
--- the word by which the hypervisor says how far it has written
-abbrev pub tx_word : List ℕ → ℕ
-tx_word own = u32_at own 4
-
--- so many slot bytes, which follow the 64 bytes of the header
-abbrev pub slots : ℕ → List ℕ → List ℕ
-slots len own = take len (drop 64 own)
-
 -- the slot bytes of a ring in its owner's memory
 abbrev pub slots_of : List ℕ → Ring → List ℕ
 slots_of memory r = slots r.len (ring_bytes memory r.pages)
-
--- bytes written into the slots from a place on: up to the ring's end, and the rest from place 0 on
-abbrev pub write_slots : ℕ → ℕ → List ℕ → List ℕ → List ℕ
-write_slots len at bytes own = splice (splice own (64 + at) (take (len - at) bytes)) 64 (drop (len - at) bytes)
-
--- a new tx word
-abbrev pub write_tx : ℕ → List ℕ → List ℕ
-write_tx tx own = splice own 4 (u32_bytes tx)
 
 -- the free bytes of a ring
 abbrev pub free : PagedRing → ℕ

@@ -4,7 +4,8 @@ use Rattle.std.proofs.lemmas.List.FromFn.{map-range_with_len_more}
 use Rattle.argo_model.specs.declared.scripts.DomainLine.{DomainLine}
 use Rattle.argo_model.specs.Runs.Script.{Section, Script, is_lawful}
 use Rattle.argo_model.specs.Examples.Words.{domain, section}
-use Rattle.gen_script.specs.Made.{number_after, lines_from, section_of, round_count, domain_count, made}
+use Rattle.argo_base.specs.Generator.{number_after}
+use Rattle.gen_script.specs.Made.{lines_from, section_of, round_count, domain_count, made}
 use Rattle.gen_script.proofs.MadeLaws.{number_after-sum, domains_are}
 use Rattle.gen_script.proofs.Lawful.{made_lawful}
 use Rattle.gen_script.proofs.scripts.gen_scripts.Goals as goal

@@ -3,7 +3,8 @@ use Rattle.std.specs.List.{range_with_len}
 use Rattle.argo_model.specs.declared.scripts.DomainLine.{DomainLine}
 use Rattle.argo_model.specs.Runs.Script.{Section}
 use Rattle.argo_model.specs.Examples.Words.{domain}
-use Rattle.gen_script.specs.Made.{round_count, number_after, section_of}
+use Rattle.argo_base.specs.Generator.{number_after}
+use Rattle.gen_script.specs.Made.{round_count, section_of}
 use Rattle.gen_script.proofs.scripts.gen_scripts.Given as goal
 
 -- the domains and sections so far, and the generator after their draws

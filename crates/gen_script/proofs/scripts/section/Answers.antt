@@ -1,7 +1,8 @@
 use Rattle.std.proofs.Common.{◌≡◌, ℕ, ◌+◌, ◌-◌, ◌*◌, ◌%◌, ◌≤◌, ◌++◌, List, sym, ap, ◌∙◌, arith}
 use Rattle.argo_model.specs.declared.line.Line.{Line}
 use Rattle.argo_model.specs.Examples.Words.{section}
-use Rattle.gen_script.specs.Made.{number_after, round_lines, drawn, lines_from, round_count, domain_count}
+use Rattle.argo_base.specs.Generator.{number_after, drawn}
+use Rattle.gen_script.specs.Made.{round_lines, lines_from, round_count, domain_count}
 use Rattle.gen_script.proofs.MadeLaws.{lines_from-more, first_draw, second_draw, rounds_are, domains_are}
 use Rattle.gen_script.proofs.scripts.section.Goals as goal
 

@@ -1,6 +1,7 @@
 use Rattle.std.proofs.Common.{◌≡◌, ◌*◌, ℕ, List}
 use Rattle.argo_model.specs.declared.line.Line.{Line}
-use Rattle.gen_script.specs.Made.{number_after, lines_from}
+use Rattle.argo_base.specs.Generator.{number_after}
+use Rattle.gen_script.specs.Made.{lines_from}
 use Rattle.gen_script.proofs.scripts.section.Given as goal
 
 -- the lines with the rounds so far, and the generator after their draws

@@ -2,7 +2,7 @@ use Rattle.std.proofs.Common.{◌≡◌, ◌+◌, ◌≤◌, length, ap, ◌∙�
 use Rattle.argo_base.proofs.SlotLaws.{page_count_holds, place}
 use Rattle.guest_pages.specs.Rows.{row_bytes}
 use Rattle.guest_pages.proofs.FlatLaws.{length-row_bytes}
-use Rattle.ring_space.specs.RingSlots.{slots, write_slots}
+use Rattle.argo_base.specs.SlotBytes.{slots, write_slots}
 use Rattle.ring_space.proofs.RunLaws.{slots-write_slots, written_run}
 use Rattle.ring_space.proofs.runs.write_run.Goals as goal
 

@@ -1,11 +1,29 @@
-use Rattle.std.proofs.Common.{◌≡◌, ◌≤◌, ◌∙◌, sym, subst, arith, ℕ, List, length, IsTrue}
+use Rattle.std.proofs.Common.{◌≡◌, ◌≤◌, ◌∙◌, sym, ap, subst, arith, ℕ, List, length, IsTrue}
 use Rattle.std.specs.List.{list_all}
 use Rattle.argo_model.specs.Runs.Script.{Script}
 use Rattle.argo_model.specs.Runs.Run.{run, is_open, is_finished}
+use Rattle.argo_base.specs.Generator.{number_after}
 use Rattle.serial_run.specs.Picks.{EachIsPick}
 use Rattle.serial_run.proofs.PickLaws.{all_finished, picked-open, one-more, number-turned, pick-made, ready-of, zero-where, none-left}
 use Rattle.argo_machine.proofs.RunLaws.{few_sections}
 use Rattle.serial_run.proofs.run.run_scripts.Goals as goal
+
+pub steps-init : goal.steps-init
+steps-init c =
+    let s = c.args.scripts.now in
+    let seed = c.args.seed in
+    let m = c.in_ok-machine.machine in
+    let at = c.in_ok-machine.ensures in
+    let counted : c.len-count.result ≡ length s.sections = c.len-count.ensures ∙ ap (λ t. length t.sections) c.scripts.view_is in
+    record {
+      same = at.script;
+      each = let P : List ℕ → Type 0 = λ vs. EachIsPick s seed vs in subst P (sym at.schedule) (λ i below. absurd (omega arith));
+      turned = c.new-picks.ensures.number ∙ ap (λ vs. number_after seed (length vs)) (sym at.schedule);
+      seeded = c.new-picks.ensures.seed;
+      ready = ready-of s m.script m.schedule c.len-count.result c.list_open.new.vcpus.items at.script counted c.list_open.ensures.open;
+      counted = counted;
+      room = let e = c.in_ok-vcpus.ensures in omega (arith, e.capacity, c.list_open.ensures.room);
+    }
 
 pub step-requires : goal.step-requires
 step-requires c =

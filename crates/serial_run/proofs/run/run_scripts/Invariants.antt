@@ -3,7 +3,8 @@ use Rattle.argo_model.specs.Runs.Script.{Script}
 use Rattle.argo_machine.specs.Machine.{Standing}
 use Rattle.argo_model.specs.Runs.Run.{run}
 use Rattle.serial_run.specs.declared.picks.Picks.{Picks}
-use Rattle.serial_run.specs.Picks.{open_sections, number_after, EachIsPick}
+use Rattle.argo_base.specs.Generator.{number_after}
+use Rattle.serial_run.specs.Picks.{open_sections, EachIsPick}
 use Rattle.serial_run.proofs.run.run_scripts.Given as goal
 
 -- the schedule so far is of picks, the generator has turned once for each, and the sections listed are those open next

@@ -4,10 +4,10 @@ use Rattle.argo_machine.specs.Machine.{script_of}
 use Rattle.argo_machine.proofs.machine.Machine.step.Goals as goal
 
 pub advance-requires : goal.advance-requires
-advance-requires c =
+advance-requires g c =
     let m = c.self.inside in
     record {
-      course = run (script_of m.version m.domains m.kept.vcpus.items) (schedule_of m.kept.books.runs.items);
+      course = run (script_of m.version m.domains m.kept.vcpus) (schedule_of m.kept.runs);
       keeps = c.self.invariant;
       unfinished = rw (← c.self.view_is) at c.requires;
     }

@@ -1,5 +1,5 @@
 use Rattle.std.proofs.Common.{sym, ap, ◌∙◌}
-use Rattle.guest_pages.specs.Numbers.{all_differ}
+use Rattle.argo_base.specs.Numbers.{all_differ}
 use Rattle.guest_pages.specs.Rows.{numbers_of}
 use Rattle.guest_pages.proofs.RowLaws.{numbers_of-numbered, row_whole}
 use Rattle.guest_pages.proofs.page_row.PageRow.count.Goals as goal

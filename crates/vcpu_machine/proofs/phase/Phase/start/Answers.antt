@@ -5,7 +5,7 @@ use Rattle.argo_model.specs.Programs.Asks.{Say, fetch_all}
 use Rattle.argo_model.specs.Programs.Recv.{say_found}
 use Rattle.vcpu_machine.specs.Cursor.{pieces_left}
 use Rattle.vcpu_machine.proofs.LineLaws.{short_store, short_load}
-use Rattle.vcpu_machine.proofs.RangeLaws.{few_pieces, fetch_all-collects}
+use Rattle.vcpu_machine.proofs.RangeLaws.{few_pieces}
 use Rattle.vcpu_machine.proofs.phase.Phase.start.Goals as goal
 
 pub returns-in-Store-clause-few : goal.returns-in-Store-clause-few
@@ -25,7 +25,6 @@ pub returns-in-Load-clause-starts : goal.returns-in-Load-clause-starts
 returns-in-Load-clause-starts c = λ os.
     rw c.in-Load.is
     (ap (λ ps. fetch_all ps [] (Say Fault) (λ bs os. Say (Hex bs)) os) (sym c.over-in-Load.ensures.pieces)
-    ∙ fetch_all-collects (pieces_left c.over-in-Load.result) [] (Say Fault) (λ bs os. Say (Hex bs)) os
     ∙ c.reading.ensures.rest (Load c.in-Load.at c.in-Load.n) os)
 
 pub returns-in-Op-clause-at_phase : goal.returns-in-Op-clause-at_phase

@@ -1,0 +1,12 @@
+pub mod Answers
+pub mod Check
+pub mod Comparing
+pub mod Cut
+pub mod Differences
+pub mod Ends
+pub mod Judged
+pub mod Moves
+pub mod Numbers
+pub mod Said
+pub mod Verdicts
+pub mod Words
