@@ -17,7 +17,7 @@ use Rattle.argo_model.specs.Rules.State.{Ring, Live, has_page}
 use Rattle.argo_model.specs.Rules.Register.{is_free_for, are_free_for, without_ring}
 use Rattle.argo_model.specs.Rules.Register as rules
 use Rattle.argo_model.specs.Rules.RingBytes.{PagedRing, ring_bytes}
-use Rattle.guest_pages.specs.Numbers as numbers
+use Rattle.argo_base.specs.Numbers as numbers
 use Rattle.guest_pages.specs.Pages.{page_at, can_lend, row_of}
 use Rattle.guest_pages.specs.Rows.{numbers_of, row_bytes, page_in}
 use Rattle.guest_pages.proofs.FlatLaws.{length-row_bytes}

@@ -19,7 +19,7 @@ use Rattle.argo_model.specs.Rules.State.{Ring, Live, has_page}
 use Rattle.argo_model.specs.Rules.Register.{new_ring, is_free_for, are_free_for}
 use Rattle.argo_model.specs.Rules.Register as rules
 use Rattle.argo_model.specs.Rules.RingBytes.{PagedRing, paged as paged_in, ring_bytes, laid}
-use Rattle.guest_pages.specs.Numbers as numbers
+use Rattle.argo_base.specs.Numbers as numbers
 use Rattle.guest_pages.specs.Pages.{page_at, can_lend, row_of, without}
 use Rattle.guest_pages.specs.Rows.{numbers_of, row_bytes, page_in}
 use Rattle.guest_pages.proofs.FlatLaws.{length-row_bytes}

@@ -1,8 +1,11 @@
 -- Laws of homes that are set one after another.
-use Rattle.std.proofs.Common.{◌≡◌, ℕ, zero, suc, ◌+◌, ◌<◌, List, [], ◌∷◌, length, drop, slice_index, map, Option, Some, None, refl, sym, ap, ◌∙◌, arith}
+use Rattle.std.proofs.Common.{◌≡◌, ℕ, ◌≢◌, zero, suc, ◌+◌, ◌<◌, Bool, true, false, List, [], ◌∷◌, length, drop, slice_index, map, Option, Some, None, refl, sym, ap, ◌∙◌, arith}
 use Rattle.std.proofs.lemmas.List.{get_or-map, drop_all}
+use Rattle.std.specs.Prelude.{◌&&◌, ◌==◌}
+use Rattle.std.specs.Str.{bytes_eq}
 use Rattle.argo_base.specs.declared.ring_key.RingKey.{RingKey}
 use Rattle.guest_pages.specs.Rows.{numbers_of, page_in}
+use Rattle.ring_core.proofs.TestLaws.{same_number, other_number}
 use Rattle.paged_live.specs.declared.home.Home.{Home}
 use Rattle.paged_live.specs.Homes.{home, with_home, settled, cleared}
 
@@ -34,3 +37,17 @@ clear_done ns homes k past = ap (λ xs. cleared xs homes) (drop_all k ns (omega 
 -- the number of a page of a row
 pub number_of : (row : List (ℕ × List ℕ)) (k : ℕ) → k < length row → (page_in row k).0 ≡ slice_index (numbers_of row) k
 number_of row k below = sym (get_or-map (λ (p : ℕ × List ℕ). p.0) row k (0, []) 0 below)
+
+-- two lists of numbers are alike from a place on where they are alike at it, and from the next one on
+pub drops_same : (xs ys : List ℕ) (k : ℕ) → k < length xs → k < length ys → slice_index xs k ≡ slice_index ys k
+    → bytes_eq (drop k xs) (drop k ys) ≡ bytes_eq (drop (k + 1) xs) (drop (k + 1) ys)
+drops_same xs ys k below too same =
+    ap (λ zs. bytes_eq zs (drop k ys)) (drop_next xs k below)
+    ∙ ap (bytes_eq (slice_index xs k ∷ drop (k + 1) xs)) (drop_next ys k too)
+    ∙ ap (λ b. b && bytes_eq (drop (k + 1) xs) (drop (k + 1) ys)) (same_number (slice_index xs k) (slice_index ys k) same)
+
+pub drops_other : (xs ys : List ℕ) (k : ℕ) → k < length xs → k < length ys → slice_index xs k ≢ slice_index ys k → bytes_eq (drop k xs) (drop k ys) ≡ false
+drops_other xs ys k below too other =
+    ap (λ zs. bytes_eq zs (drop k ys)) (drop_next xs k below)
+    ∙ ap (bytes_eq (slice_index xs k ∷ drop (k + 1) xs)) (drop_next ys k too)
+    ∙ ap (λ b. b && bytes_eq (drop (k + 1) xs) (drop (k + 1) ys)) (other_number (slice_index xs k) (slice_index ys k) other)

@@ -14,12 +14,13 @@ use Rattle.argo_base.specs.declared.ring_key.RingKey.{RingKey}
 use Rattle.argo_base.specs.Match.{key_cmp}
 use Rattle.argo_model.specs.Rules.State.{Ring}
 use Rattle.argo_model.specs.Rules.Sweep.{least_serial, next_ring}
-use Rattle.ring_core.specs.Held.{Held}
+use Rattle.ring_core.specs.Held.{Held, paged}
 use Rattle.ring_table.specs.declared.row.Row.{Row}
-use Rattle.ring_table.specs.Rows.{Held as InTable, held_of, held_at}
+use Rattle.ring_table.specs.Rows.{Held as InTable, held, held_of, held_at}
 use Rattle.ring_table.specs.Serials.{NoneAbove, IsNext}
 use Rattle.ring_table.proofs.BucketLaws.{key_total, key_is, key_itself}
 use Rattle.paged_live.specs.Parts.{Rows, Parts, ring_of, rings_of, IsParts}
+use Rattle.paged_live.proofs.PartsLaws.{Found}
 use Rattle.paged_live.proofs.PutLaws.{Shown, shown_at, rings_rising, ring_at}
 
 abbrev Entry : Type 0
@@ -166,3 +167,9 @@ next_is x is after row next = by (next_ring after (rings_of x.rows)) refl where
       let key : e.0 ≡ row.key = is.named.differ e.0 row.key s.row (held_of row) s.is next.stands same in
       let value : s.row ≡ held_of row = same_Some s.row (held_of row) (sym s.is ∙ ap (held_at x.rows) key ∙ next.stands) in
       ap (λ r. Some (e.0, r)) (sym s.same) ∙ ap (λ h. Some (e.0, ring_of h)) value ∙ ap (λ k. Some (k, ring_of (held_of row))) key
+
+pub next_met : (x : Parts) → IsParts x → (after : ℕ) (row : Row Held) → IsNext x.rows after row → (a : Held) (f : Found x.rows row.key a)
+    → next_ring after (rings_of x.rows) ≡ Some (row.key, (paged f.serial a).ring)
+next_met x is after row next a f =
+    next_is x is after row next
+    ∙ ap (λ h. Some (row.key, ring_of h)) (same_Some (held_of row) (held f.serial a) (sym next.stands ∙ f.is))

@@ -4,4 +4,4 @@ use Rattle.paged_live.proofs.HomeLaws.{AreWhole}
 use Rattle.paged_live.proofs.registers.ring_on.Goals as goal
 
 pub returns-clause-sized : goal.returns-clause-sized
-returns-clause-sized c = length-row_bytes c.new.result.row (subst AreWhole c.row.ensures c.count.ensures.whole)
+returns-clause-sized c = length-row_bytes c.new-ring.result.row (subst AreWhole c.row.ensures c.count.ensures.whole)
