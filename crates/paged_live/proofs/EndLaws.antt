@@ -1,12 +1,13 @@
 -- Laws of a domain of which one ring ends.
-use Rattle.std.proofs.Common.{◌≡◌, ◌≢◌, ℕ, ◌+◌, ◌*◌, ◌<◌, Bool, true, false, cond, List, [], ◌∷◌, ◌++◌, length, take, drop, slice_index, slice_get, map, Option, Some, None, option_map, ⊎_elim, refl, sym, ap, ◌∙◌, subst, arith}
+use Rattle.std.proofs.Common.{◌≡◌, ◌≢◌, ℕ, ◌+◌, ◌*◌, ◌<◌, Bool, true, false, true≢false, cond, List, [], ◌∷◌, ◌++◌, length, take, drop, slice_index, slice_get, map, Option, Some, None, option_map, ⊎_elim, refl, sym, ap, ◌∙◌, subst, arith}
 use Rattle.std.specs.Prelude.{is_some, not}
 use Rattle.std.specs.Borrow.{Bor}
 use Rattle.std.specs.Option.{option_copied}
 use Rattle.std.specs.List.Sorted.{IsStrictlySortedBy}
 use Rattle.std.specs.Map.{keys_of, lookup, remove_entry}
 use Rattle.std.specs.BTreeMap.{is_at}
-use Rattle.std.proofs.lemmas.List.{length-map, take-append_seam}
+use Rattle.std.proofs.Math.Seq.{take-append_seam}
+use Rattle.std.proofs.lemmas.List.{length-map}
 use Rattle.std.proofs.lemmas.Option.{none-some, same_Some}
 use Rattle.std.proofs.lemmas.Map.Made.{lookup-map_values}
 use Rattle.argo_base.specs.declared.ring_key.RingKey.{RingKey}
@@ -101,6 +102,9 @@ there_seen x key = by (held_at x.rows key) ∙ ap is_some (sym (lookup-map_value
 
 pub none_seen : (x : Parts) (key : RingKey) → held_at x.rows key ≡ None → own_ring (seen x) key ≡ None
 none_seen x key none = lookup-map_values ring_of (is_at (key_cmp key)) x.rows ∙ ap (option_map ring_of) none
+
+pub never : (x : Parts) (key : RingKey) → held_at x.rows key ≡ None → has_ring (seen x) key ≡ true → ⊥
+never x key none stands = true≢false (sym stands ∙ ap is_some (none_seen x key none))
 
 pub found_seen : (x : Parts) (key : RingKey) (a : Held) → Found x.rows key a → has_ring (seen x) key ≡ true
 found_seen x key a f = ap is_some (ring_seen x.rows key a f)

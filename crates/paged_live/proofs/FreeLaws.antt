@@ -157,10 +157,10 @@ module _ (x : Parts) (is : IsParts x) (ns : List ℕ) (can : IsTrue (can_lend x.
   abbrev lent : List (ℕ × List ℕ)
   lent = row_of x.private ns
 
-  lent_in : (i : ℕ) → i < length ns → page_in lent i ≡ (slice_index ns i, unwrap_or (page_at x.private (slice_index ns i)) [])
+  pub lent_in : (i : ℕ) → i < length ns → page_in lent i ≡ (slice_index ns i, unwrap_or (page_at x.private (slice_index ns i)) [])
   lent_in i below = get_or-map (λ n. (n, unwrap_or (page_at x.private n) [])) ns i 0 (0, []) below
 
-  lent_length : length lent ≡ length ns
+  pub lent_length : length lent ≡ length ns
   lent_length = length-map ns (λ n. (n, unwrap_or (page_at x.private n) []))
 
   pub lent_whole : AreWhole lent

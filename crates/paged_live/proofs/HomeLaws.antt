@@ -91,7 +91,7 @@ with_row_other pages (p ∷ ps) m apart =
     with_row_other (slice_set pages p.0 (Some p.1)) ps m (tail_apart p.0 (numbers_of ps) m apart)
     ∙ get_or-set_other pages p.0 m (Some p.1) None (head_apart p.0 (numbers_of ps) m apart)
 
-with_row_at : (pages : List (Option (List ℕ))) (row : List (ℕ × List ℕ)) (i : ℕ) → Differ (numbers_of row) → i < length (numbers_of row) → slice_index (numbers_of row) i < length pages
+pub with_row_at : (pages : List (Option (List ℕ))) (row : List (ℕ × List ℕ)) (i : ℕ) → Differ (numbers_of row) → i < length (numbers_of row) → slice_index (numbers_of row) i < length pages
     → page_at (with_row pages row) (slice_index (numbers_of row) i) ≡ Some (page_in row i).1
 with_row_at pages [] i differ below inside = absurd (omega arith)
 with_row_at pages (p ∷ ps) zero differ below inside =

@@ -16,3 +16,4 @@ pub mod NoticeLaws
 pub mod FinalLaws
 pub mod OwnLaws
 pub mod LoopLaws
+pub mod BackLaws

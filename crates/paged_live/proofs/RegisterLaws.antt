@@ -4,11 +4,12 @@ use Rattle.std.specs.List.Sorted.{IsStrictlySortedBy}
 use Rattle.std.specs.Map.{keys_of, lookup, set_value}
 use Rattle.std.specs.BTreeMap.{is_at, insert_entry}
 use Rattle.std.proofs.lemmas.Map.{keys-set_value}
+use Rattle.std.proofs.lemmas.Map.Made.{lookup-map_values}
 use Rattle.std.proofs.lemmas.Option.{none-some}
 use Rattle.argo_base.specs.declared.ring_key.RingKey.{RingKey}
 use Rattle.argo_base.specs.Match.{key_cmp, key_in}
 use Rattle.argo_model.specs.Rules.State.{Ring, Live}
-use Rattle.argo_model.specs.Rules.Register.{new_ring, add_paged, resized, are_free_for, without_ring}
+use Rattle.argo_model.specs.Rules.Register.{new_ring, add_paged, own_ring, resized, are_free_for, without_ring}
 use Rattle.argo_model.specs.Rules.RingBytes.{PagedRing, paged as paged_in, set_paged, ring_bytes, laid}
 use Rattle.argo_model.specs.Rules.Starts.{started}
 use Rattle.guest_pages.specs.Pages.{can_lend, row_of, without, with_row}
@@ -19,6 +20,7 @@ use Rattle.ring_table.specs.Rows.{Held as Row, held, held_at}
 use Rattle.ring_table.specs.Edits as edits
 use Rattle.ring_table.proofs.BucketLaws.{key_total, key_exact}
 use Rattle.ring_table.proofs.EntryLaws.{same_entries, sorted-insert, sorted-remove}
+use Rattle.paged_live.specs.declared.home.Home.{Home}
 use Rattle.paged_live.specs.Homes.{cleared, settled}
 use Rattle.paged_live.specs.Parts.{Rows, Parts, store_of, ring_of, rings_of, seen, IsParts}
 use Rattle.paged_live.proofs.StoreLaws.{same_key_or_not}
@@ -65,6 +67,22 @@ module _ (x : Parts) (is : IsParts x) (key : RingKey) (len : ℕ) (v : Held) (ns
       ∙ ap (λ rs. record (seen x) { bytes = laid p.ring.pages p.own (seen x).bytes; next_serial = serial + 1; rings = rs }) (joined_rings x is key serial (serial + 1) v ns new_joins)
       ∙ ap (add_paged (seen x) key) is_started
 
+-- each part as a call leaves it
+pub registered_is : (x : Parts) (key : RingKey) (v : Held) (ns : List ℕ) (private : List (Option (List ℕ))) (homes : List (Option Home)) (rows : Rows)
+    → private ≡ without x.private ns → homes ≡ settled key 0 ns x.homes → rows ≡ edits.with_row x.rows key x.next_serial v
+    → record { private = private; homes = homes; flag = x.flag; next_serial = x.next_serial + 1; rows = rows } ≡ joined x key x.next_serial (x.next_serial + 1) v ns
+registered_is x key v ns private homes rows p h s =
+    ap (λ ps. record x { private = ps; homes = homes; next_serial = x.next_serial + 1; rows = rows }) p
+    ∙ ap (λ hs. record x { private = without x.private ns; homes = hs; next_serial = x.next_serial + 1; rows = rows }) h
+    ∙ ap (λ rs. record x { private = without x.private ns; homes = settled key 0 ns x.homes; next_serial = x.next_serial + 1; rows = rs }) s
+
+-- no ring of the key is seen where none stands
+pub none_held : (x : Parts) (key : RingKey) → own_ring (seen x) key ≡ None → held_at x.rows key ≡ None
+none_held x key none = by (held_at x.rows key) (sym (lookup-map_values ring_of (is_at (key_cmp key)) x.rows) ∙ none) where
+  by : (o : Option (Row Held)) → option_map ring_of o ≡ None → o ≡ None
+  by None h = refl
+  by (Some r) h = cc
+
 -- ---- a ring on other pages
 
 module _ (x : Parts) (is : IsParts x) (key : RingKey) (a v : Held) (f : Found x.rows key a) (whole : AreWhole a.row) (ns : List ℕ) where
@@ -75,6 +93,13 @@ module _ (x : Parts) (is : IsParts x) (key : RingKey) (a v : Held) (f : Found x.
         homes = settled key 0 ns (cleared (numbers_of a.row) x.homes);
         rows = edits.with_value x.rows key v;
       }
+
+  pub moved_is : (private : List (Option (List ℕ))) (homes : List (Option Home)) → private ≡ without (given_back x.private a) ns
+      → homes ≡ settled key 0 ns (cleared (numbers_of a.row) x.homes)
+      → record { private = private; homes = homes; flag = x.flag; next_serial = x.next_serial; rows = edits.with_value x.rows key v } ≡ moved
+  moved_is private homes p h =
+      ap (λ ps. record x { private = ps; homes = homes; rows = edits.with_value x.rows key v }) p
+      ∙ ap (λ hs. record x { private = without (given_back x.private a) ns; homes = hs; rows = edits.with_value x.rows key v }) h
 
   abbrev back : Parts
   back = ended x key a

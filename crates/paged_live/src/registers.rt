@@ -99,7 +99,7 @@ impl Live {
         Ok(Outcome::Done)
     }
 
-    // Registers a ring anew. Where memory runs out all stays.
+    // Registers a ring that stands anew. Where memory runs out all stays.
     fn register_anew(
         &mut self,
         alloc: Global,
@@ -109,6 +109,7 @@ impl Live {
     ) -> Result<Change, NoMemory>
         requires legal { IsTrue (is_legal len) }
         requires counted { length pages.now ≡ page_count len }
+        requires stands { IsTrue (rules.has_ring self.old key.now) }
         ensures outcome { IfOk result
             (λ c. c.outcome ≡ (anew_if_free self.old key.now len pages.now).outcome) }
         ensures signals { IfOk result
@@ -120,6 +121,8 @@ impl Live {
         let Some(ring) = self.rings.find_exact_mut(*key) else {
             return Ok(Change::quiet(alloc, Outcome::Done));
         };
+        ring.len();
+        ring.row().count();
         if stands_so(ring, len, pages) {
             return Ok(Change::quiet(alloc, Outcome::Done));
         }

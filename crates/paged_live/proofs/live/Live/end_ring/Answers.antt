@@ -43,7 +43,7 @@ invariant_of-self-2 c =
     let f = found_value x.rows c.args.key a (sym c.remove.ensures.value ∙ c.in-Some.is) in
     let whole = subst AreWhole c.into_parts-row.ensures.row c.count.ensures.whole in
     let homes : c.clear.new.homes ≡ cleared (numbers_of row) x.homes = c.clear.ensures ∙ ap (cleared (numbers_of row)) c.as_mut_slice.ensures.value in
-    let long : length c.clear.new.homes ≡ i.homes.len = ap length homes ∙ length-cleared (numbers_of row) x.homes ∙ i.homes.ok.0 in
+    let long : length c.clear.new.homes ≡ i.homes.len = ap length homes ∙ length-cleared (numbers_of row) x.homes ∙ sym i.homes.ok.0 in
     let back = written_back i.homes.len c.clear.new.homes i.homes.items long in
     let same = ended_is x c.args.key a row c.give_back.new.self (take i.homes.len (c.clear.new.homes ++ drop (length c.clear.new.homes) i.homes.items)) c.remove.new.self
     c.into_parts-row.ensures.row c.give_back.ensures (back ∙ homes) c.remove.ensures.rest in
@@ -66,7 +66,7 @@ returns-clause-left c =
     let f = found_value x.rows c.args.key a (sym c.remove.ensures.value ∙ c.in-Some.is) in
     let whole = subst AreWhole c.into_parts-row.ensures.row c.count.ensures.whole in
     let homes : c.clear.new.homes ≡ cleared (numbers_of row) x.homes = c.clear.ensures ∙ ap (cleared (numbers_of row)) c.as_mut_slice.ensures.value in
-    let long : length c.clear.new.homes ≡ i.homes.len = ap length homes ∙ length-cleared (numbers_of row) x.homes ∙ i.homes.ok.0 in
+    let long : length c.clear.new.homes ≡ i.homes.len = ap length homes ∙ length-cleared (numbers_of row) x.homes ∙ sym i.homes.ok.0 in
     let back = written_back i.homes.len c.clear.new.homes i.homes.items long in
     let same = ended_is x c.args.key a row c.give_back.new.self (take i.homes.len (c.clear.new.homes ++ drop (length c.clear.new.homes) i.homes.items)) c.remove.new.self
     c.into_parts-row.ensures.row c.give_back.ensures (back ∙ homes) c.remove.ensures.rest in
