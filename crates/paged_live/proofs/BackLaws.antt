@@ -1,14 +1,12 @@
 -- Laws of pages that come back as they were lent, and of homes that are settled as they were.
 use Rattle.std.proofs.Common.{◌≡◌, ◌≢◌, ℕ, zero, suc, ◌+◌, ◌*◌, ◌<◌, ◌≤◌, Bool, true, false, ◌&&◌, if◌then◌else◌, IsTrue, List, [], ◌∷◌, ◌++◌, length, take, drop, slice_index, map, Option, Some, None, unwrap_or, ⊎_elim, refl, sym, ap, ◌∙◌, subst, arith, length-drop}
-use Rattle.std.specs.Prelude.{is_some, nat_le, ◌==◌, ◌%◌, slice_index_or}
-use Rattle.std.proofs.lemmas.Bool.Decides.{nat_tests}
+use Rattle.std.specs.Prelude.{is_some, slice_index_or}
 use Rattle.std.specs.List.{All, list_all}
 use Rattle.std.proofs.Math.Seq.{take-append_seam, drop-append_seam}
 use Rattle.std.proofs.lemmas.List.{length-map, same_lists, get_or_default, take-append-drop, drop-drop, length-take-le}
 use Rattle.std.proofs.lemmas.Option.{none-some}
 use Rattle.argo_base.specs.declared.ring_key.RingKey.{RingKey}
-use Rattle.argo_base.specs.Limits.{least_ring, greatest_ring, slot_bytes}
-use Rattle.argo_base.proofs.SlotLaws.{page_count_most}
+use Rattle.argo_base.proofs.SlotLaws.{legal, page_count_most}
 use Rattle.argo_base.specs.Layout.{u32_bytes}
 use Rattle.argo_base.specs.Numbers as numbers
 use Rattle.argo_base.specs.Slots.{is_legal, is_place, page_count}
@@ -23,7 +21,7 @@ use Rattle.guest_pages.specs.Rows.{numbers_of, row_bytes, page_in}
 use Rattle.guest_pages.proofs.FlatLaws.{length-row_bytes}
 use Rattle.ring_core.specs.Held.{Held, paged}
 use Rattle.ring_core.specs.Restarts.{ring_on}
-use Rattle.ring_core.proofs.TestLaws.{and_also, both}
+use Rattle.ring_core.proofs.TestLaws.{and_also}
 use Rattle.paged_live.specs.declared.home.Home.{Home}
 use Rattle.paged_live.specs.Homes.{home, home_at, settled, cleared}
 use Rattle.paged_live.specs.Store.{piece}
@@ -172,7 +170,4 @@ module _ (x : Parts) (is : IsParts x) (key : RingKey) (a : Held) (f : Found x.ro
 
 -- a ring has few pages
 pub few_pages : (len : ℕ) → IsTrue (is_legal len) → page_count len ≤ 4097
-few_pages len legal =
-    let most = (both (nat_le least_ring len) (nat_le len greatest_ring && (len % slot_bytes == 0)) legal).1 in
-    let below : nat_le len greatest_ring ≡ true = (both (nat_le len greatest_ring) (len % slot_bytes == 0) most).0 in
-    page_count_most len (grind (arith, nat_tests))
+few_pages len test = page_count_most len (legal len test).most

@@ -17,3 +17,4 @@ pub mod FinalLaws
 pub mod OwnLaws
 pub mod LoopLaws
 pub mod BackLaws
+pub mod MemoryLaws

@@ -25,19 +25,19 @@ module _ (live : Live) (key : RingKey) (len : ℕ) (pages : List ℕ) where
 
   -- the pages are not free
   pub new_refused : are_free_for live key pages ≡ false → new_if_free live key len pages ≡ refused Inval
-  new_refused no = ap (λ b. refuse_if (not b) Inval (register_new live key len pages)) no
+  new_refused taken = ap (λ b. refuse_if (not b) Inval (register_new live key len pages)) taken
 
   pub new_free : are_free_for live key pages ≡ true → new_if_free live key len pages ≡ register_new live key len pages
-  new_free yes = ap (λ b. refuse_if (not b) Inval (register_new live key len pages)) yes
+  new_free free = ap (λ b. refuse_if (not b) Inval (register_new live key len pages)) free
 
   pub anew_refused : are_free_for live key pages ≡ false → anew_if_free live key len pages ≡ refused Inval
-  anew_refused no = ap (λ b. refuse_if (not b) Inval (register_allowed live key len pages (own_ring live key))) no
+  anew_refused taken = ap (λ b. refuse_if (not b) Inval (register_allowed live key len pages (own_ring live key))) taken
 
   -- they are, for a ring that stands
   pub anew_is : (r : Ring) (same : Bool) → are_free_for live key pages ≡ true → own_ring live key ≡ Some r → stands_so r len pages ≡ same
       → anew_if_free live key len pages ≡ (if same then answered Done else register_anew live key r len pages)
-  anew_is r same yes found so =
-      ap (λ b. refuse_if (not b) Inval (register_allowed live key len pages (own_ring live key))) yes
+  anew_is r same free found so =
+      ap (λ b. refuse_if (not b) Inval (register_allowed live key len pages (own_ring live key))) free
       ∙ ap (register_allowed live key len pages) found ∙ ap (λ b. if b then answered Done else register_anew live key r len pages) so
 
   -- a ring stands, and that is a refusal
@@ -67,5 +67,4 @@ has_none live key none = by (own_ring live key) none where
 
 -- a ring that stands so stands on those pages
 pub stands_pages : (r : Ring) (len : ℕ) (pages : List ℕ) → stands_so r len pages ≡ true → r.pages ≡ pages
-stands_pages r len pages so =
-    (bytes_eq-Decides r.pages pages).0 (both (r.len == len) (bytes_eq r.pages pages) (both r.clean ((r.len == len) && bytes_eq r.pages pages) so).1).1
+stands_pages r len pages so = (bytes_eq-Decides r.pages pages).0 (both (r.clean && (r.len == len)) (bytes_eq r.pages pages) so).1

@@ -1,11 +1,11 @@
 -- Rings and notices that end.
-use Rattle.std.specs.Prelude.{ℕ, not, Option, Some, None}
+use Rattle.std.specs.Prelude.{ℕ, not, [], Option, Some, None}
 use Rattle.std.specs.Map.{set_value}
 use Rattle.std.specs.BTreeMap.{is_at}
 use Rattle.argo_base.specs.declared.errno.Errno.TheVariants.{NoEnt}
 use Rattle.argo_base.specs.declared.ring_key.RingKey.{RingKey}
 use Rattle.argo_base.specs.Match.{key_cmp}
-use Rattle.argo_base.specs.Notices.{withdrawn}
+use Rattle.argo_base.specs.Notices.{Notices, withdrawn}
 use Rattle.argo_model.specs.declared.action.Outcome.TheVariants.{Done}
 use Rattle.argo_model.specs.Rules.Destroy.{ring_without}
 use Rattle.argo_model.specs.Rules.Effects.{Change, refuse_if, leaving}
@@ -32,3 +32,11 @@ without_notice_at d key live (Some r) = set_ring live key (ring_without d r)
 
 abbrev pub without_notice : ℕ → RingKey → Live → Live
 without_notice d key live = without_notice_at d key live (own_ring live key)
+
+-- who waits for room in a ring
+abbrev pub noted_on : Option Ring → Notices
+noted_on None = []
+noted_on (Some r) = r.notices
+
+abbrev pub noted : Live → RingKey → Notices
+noted live key = noted_on (own_ring live key)

@@ -30,6 +30,16 @@ impl Live {
         Some(row.key)
     }
 
+    /// The domains that wait for room in the ring under the key, each with the size that it waits for.
+    pub fn noted(&self, key: RingKey) -> &[(DomId, u32)]
+        ensures { result.now ≡ ends.noted self.now key }
+    {
+        let Some(row) = self.rings.find_exact(key) else {
+            return &[];
+        };
+        row.value.notices().as_slice()
+    }
+
     /// Takes a ring away.
     pub fn unregister(&mut self, key: RingKey) -> Outcome
         ensures outcome { result ≡ (ends.take_away self.old key).outcome }

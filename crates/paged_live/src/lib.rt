@@ -10,14 +10,13 @@ mod ends;
 mod finals;
 mod home;
 mod live;
+mod memory;
 mod offers;
 mod own;
 mod puts;
 mod queries;
 mod registers;
 mod sweeps;
-
-
 
 pub use change::Change;
 pub use live::Live;

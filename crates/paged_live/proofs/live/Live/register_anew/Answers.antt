@@ -305,8 +305,8 @@ returns-in-Pages-clause-outcome c =
     let a = c.in-Some.ring.now in
     let f = found_value x.rows key a (sym c.find_exact_mut.ensures.value ∙ ap option_copied_mut c.in-Some.is) in
     let whole = subst AreWhole c.row.ensures c.count.ensures.whole in
-    let no = anew_free x parts key a a f whole ns ∙ c.restart.ensures.pages (c.in-Err.is ∙ ap Err c.in-Pages.is) in
-    let refusal = anew_refused (seen x) key len ns no in
+    let taken = anew_free x parts key a a f whole ns ∙ c.restart.ensures.pages (c.in-Err.is ∙ ap Err c.in-Pages.is) in
+    let refusal = anew_refused (seen x) key len ns taken in
     c.quiet-in-Pages.ensures.outcome ∙ ap (λ (ch : Change Live). ch.outcome) (sym refusal) ∙ ap (λ (l : Live). (anew_if_free l key len ns).outcome) c.self.view_is
 
 pub returns-in-Pages-clause-signals : goal.returns-in-Pages-clause-signals
@@ -320,8 +320,8 @@ returns-in-Pages-clause-signals c =
     let a = c.in-Some.ring.now in
     let f = found_value x.rows key a (sym c.find_exact_mut.ensures.value ∙ ap option_copied_mut c.in-Some.is) in
     let whole = subst AreWhole c.row.ensures c.count.ensures.whole in
-    let no = anew_free x parts key a a f whole ns ∙ c.restart.ensures.pages (c.in-Err.is ∙ ap Err c.in-Pages.is) in
-    let refusal = anew_refused (seen x) key len ns no in
+    let taken = anew_free x parts key a a f whole ns ∙ c.restart.ensures.pages (c.in-Err.is ∙ ap Err c.in-Pages.is) in
+    let refusal = anew_refused (seen x) key len ns taken in
     c.quiet-in-Pages.ensures.signals ∙ ap (λ (ch : Change Live). ch.signals) (sym refusal) ∙ ap (λ (l : Live). (anew_if_free l key len ns).signals) c.self.view_is
 
 pub returns-in-Pages-clause-left : goal.returns-in-Pages-clause-left
@@ -355,8 +355,8 @@ returns-in-Pages-clause-left c =
     let same : record x { private = c.restart.new.private; homes = now; rows = rows } ≡ with_ring x key b =
     ap (λ ps. record x { private = ps; homes = now; rows = rows }) c.in-Err.ensures.err_private ∙ ap (λ hs. record x { homes = hs; rows = rows }) (back ∙ homes) in
     let still : StandsStill a b = record { id = c.in-Err.ensures.id; pages = ap (λ (h : Held). numbers_of h.row) err; sized = c.in-Err.ensures.sized } in
-    let no = anew_free x parts key a a f whole ns ∙ c.restart.ensures.pages (c.in-Err.is ∙ ap Err c.in-Pages.is) in
-    let refusal = anew_refused (seen x) key len ns no in
+    let taken = anew_free x parts key a a f whole ns ∙ c.restart.ensures.pages (c.in-Err.is ∙ ap Err c.in-Pages.is) in
+    let refusal = anew_refused (seen x) key len ns taken in
     ap seen same
     ∙ unchanged_seen x parts key a b f still (λ serial. ap (paged serial) err)
     ∙ ap (λ (ch : Change Live). after (seen x) ch) (sym refusal) ∙ ap (λ (l : Live). after l (anew_if_free l key len ns)) c.self.view_is

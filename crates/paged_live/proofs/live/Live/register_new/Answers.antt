@@ -28,8 +28,8 @@ returns-in-Err-Pages-clause-outcome c =
     let len = c.args.len in
     let ns = c.args.pages.now in
     let none = none_held x key (ap (λ (l : Live). own_ring l key) c.self.view_is ∙ c.requires.none) in
-    let no = c.lend.ensures.pages (c.in-Err-Pages.is ∙ ap Err c.in-Err-Pages.field-0-is) in
-    let refusal = new_refused (seen x) key len ns (free_is x parts key none ns ∙ no) in
+    let taken = c.lend.ensures.pages (c.in-Err-Pages.is ∙ ap Err c.in-Err-Pages.field-0-is) in
+    let refusal = new_refused (seen x) key len ns (free_is x parts key none ns ∙ taken) in
     ap (λ (ch : Change Live). ch.outcome) (sym refusal) ∙ ap (λ (l : Live). (new_if_free l key len ns).outcome) c.self.view_is
 
 pub returns-in-Err-Pages-clause-left : goal.returns-in-Err-Pages-clause-left
@@ -41,8 +41,8 @@ returns-in-Err-Pages-clause-left c =
     let len = c.args.len in
     let ns = c.args.pages.now in
     let none = none_held x key (ap (λ (l : Live). own_ring l key) c.self.view_is ∙ c.requires.none) in
-    let no = c.lend.ensures.pages (c.in-Err-Pages.is ∙ ap Err c.in-Err-Pages.field-0-is) in
-    let refusal = new_refused (seen x) key len ns (free_is x parts key none ns ∙ no) in
+    let taken = c.lend.ensures.pages (c.in-Err-Pages.is ∙ ap Err c.in-Err-Pages.field-0-is) in
+    let refusal = new_refused (seen x) key len ns (free_is x parts key none ns ∙ taken) in
     ap (λ ps. seen (record x { private = ps })) c.in-Err-Pages.ensures.err
     ∙ ap (λ (ch : Change Live). after (seen x) ch) (sym refusal)
     ∙ ap (λ (l : Live). after l (new_if_free l key len ns)) c.self.view_is
