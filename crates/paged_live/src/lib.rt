@@ -17,6 +17,8 @@ mod puts;
 mod queries;
 mod registers;
 mod sweeps;
+#[cfg(test)]
+mod tests;
 
 pub use change::Change;
 pub use live::Live;
