@@ -9,22 +9,15 @@ use Rattle.argo_model.specs.Rules.State.{Live, has_page}
 use Rattle.paged_live.specs.Parts.{Parts, seen, IsParts}
 use Rattle.paged_live.proofs.PutLaws.{page_is_there, length-memory}
 
-read_at : (live : Live) (page : ℕ) (there : Bool) → Outcome
-read_at live page true = Bytes (take 4096 (drop (4096 * page + 0) live.bytes))
-read_at live page false = Fault
-
 -- a page that was fetched
 pub page_read : (live : Live) (page : ℕ) (bytes : List ℕ) → Bytes bytes ≡ fetch live page 0 4096 → bytes ≡ take 4096 (drop (4096 * page) live.bytes)
-page_read live page bytes is = by (has_page live page) (is ∙ same (has_page live page)) where
-  same : (there : Bool) → (if there then Bytes (take 4096 (drop (4096 * page + 0) live.bytes)) else Fault) ≡ read_at live page there
-  same true = refl
-  same false = refl
-
+page_read live page bytes is = by (has_page live page) is where
   inside : Outcome → List ℕ
   inside (Bytes bs) = bs
   inside o = []
 
-  by : (there : Bool) → Bytes bytes ≡ read_at live page there → bytes ≡ take 4096 (drop (4096 * page) live.bytes)
+  by : (there : Bool) → Bytes bytes ≡ (if there then Bytes (take 4096 (drop (4096 * page + 0) live.bytes)) else Fault)
+      → bytes ≡ take 4096 (drop (4096 * page) live.bytes)
   by true h = ap inside h ∙ ap (λ n. take 4096 (drop n live.bytes)) (omega arith)
   by false h = cc
 

@@ -25,6 +25,7 @@ impl Live {
         ensures { IfOk result
             (λ bytes. bytes ≡ take page_bytes (drop (page_bytes * page) self.now.bytes)) }
     {
+        self.private.count();
         match self.fetch(alloc, page as u64, 0, PAGE_BYTES)? {
             Outcome::Bytes(bytes) => Ok(bytes),
             _ => Ok(Bytes::new(alloc)),
