@@ -84,7 +84,6 @@ put_nothing p at =
       by true = ap (clean_after p.ring at 0) moved ∙ still
       by false = refl
 
-
 -- a test that says that there are no bytes
 pub no_bytes : (bytes : List ℕ) (b : Bool) → b ≡ (length bytes == 0) → b ≡ true → bytes ≡ []
 no_bytes [] b is h = refl

@@ -1,4 +1,6 @@
 //! A ring that takes a message, is swept, and ends, and whose bytes stay in the memory.
+ghost use Rattle.std.specs.Prelude.{◌<◌, ◌^◌};
+
 use crate::{Live, Offer, Registration};
 use argo_base::slots::{is_legal, page_count};
 use argo_base::{Bytes, DomId, Errno, LONGEST_BODY, PageList, RingKey};
@@ -14,7 +16,9 @@ const KEY: RingKey = RingKey {
     partner: SENDER,
 };
 
-fn register(rt: &impl Abort, alloc: Global, live: &mut Live, page: u64) -> Result<Outcome, Fail> {
+fn register(rt: &impl Abort, alloc: Global, live: &mut Live, page: u64) -> Result<Outcome, Fail>
+    requires { live.old.next_serial < 2 ^ 63 }
+{
     let pages = PageList::copy_of(alloc, &[page])?;
     assert!(rt; is_legal(96));
     assert_eq!(rt; pages.len(), page_count(96) as usize);
@@ -64,7 +68,6 @@ fn a_ring_takes_a_message_and_its_bytes_stay(rt: HostRuntime) -> Result<(), Fail
     assert!(rt; is_done(&live.put(1, 0, &[32, 0, 0, 0])));
     let change = live.sweep(alloc, 0)?;
     assert_eq!(rt; change.signals.as_slice(), [SENDER].as_slice());
-    assert!(rt; is_done(&register(&rt, alloc, &mut live, 2)?));
     assert!(rt; is_done(&live.unregister(KEY)));
     match live.fetch(alloc, 1, 80, 4)? {
         Outcome::Bytes(bytes) => assert_eq!(rt; bytes.as_slice(), [7; 4].as_slice()),

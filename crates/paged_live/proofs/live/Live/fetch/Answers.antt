@@ -56,4 +56,3 @@ returns c =
     ap Bytes c.in_ok-bytes-2.ensures
     ∙ fetch_lent x c.self.invariant c.args.page c.args.off c.args.n home.place home.key a f c.requires lent
     ∙ ap (λ (l : Live). acts.fetch l c.args.page c.args.off c.args.n) c.self.view_is
-

@@ -120,4 +120,3 @@ returns-clause-left c =
     ap (λ p. seen (record (with_ring x key c.put_into.new.ring) { private = p })) same
     ∙ put_seen x c.self.invariant c.args.page c.args.off c.in-Some.home.place c.args.bytes.now key a c.put_into.new.ring f lent c.requires c.put_into.ensures.still c.put_into.ensures.left
     ∙ ap (λ (l : Live). after l (acts.put l c.args.page c.args.off c.args.bytes.now)) c.self.view_is
-
