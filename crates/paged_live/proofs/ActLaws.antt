@@ -1,5 +1,5 @@
 -- Laws of acts on one ring, which keep its pages.
-use Rattle.std.proofs.Common.{◌≡◌, ℕ, ◌+◌, ◌*◌, ◌<◌, ◌≤◌, min, max, Bool, true, false, ◌&&◌, ◌||◌, ◌==◌, if◌then◌else◌, List, [], ◌∷◌, length, Option, Some, None, ◌⊎◌, inl, inr, refl, sym, ap, ◌∙◌, arith}
+use Rattle.std.proofs.Common.{◌≡◌, ℕ, ◌+◌, ◌<◌, ◌≤◌, min, max, Bool, true, false, ◌&&◌, ◌||◌, ◌==◌, if◌then◌else◌, List, [], ◌∷◌, length, Option, None, ◌⊎◌, inl, inr, refl, sym, ap, ◌∙◌, arith}
 use Rattle.std.proofs.lemmas.Bool.{cases_lt}
 use Rattle.std.proofs.lemmas.Bool.Decides.{nat_tests}
 use Rattle.argo_base.specs.Layout.{u32_at}
@@ -12,10 +12,9 @@ use Rattle.argo_base.specs.Slots.{fits, is_too_big}
 use Rattle.argo_model.specs.declared.action.Load.{Load}
 use Rattle.argo_model.specs.declared.action.Load.TheVariants.{Body, Faulted, Refused}
 use Rattle.argo_model.specs.declared.action.Outcome.TheVariants.{Refused as IsRefused}
-use Rattle.argo_model.specs.Rules.Deliver.{Offer, offer, offer_load, if_it_fits, wait_for_room, with_notice, accepted, message_of}
+use Rattle.argo_model.specs.Rules.Deliver.{Offer, offer, offer_load, wait_for_room, with_notice, accepted, message_of}
 use Rattle.argo_model.specs.Rules.Effects.{Change, after, refuse_if, refused, leaving}
 use Rattle.argo_model.specs.Rules.RingBytes.{PagedRing, free, rx_word}
-use Rattle.guest_pages.specs.Rows.{numbers_of, row_bytes}
 use Rattle.guest_pages.proofs.FlatLaws.{length-row_bytes}
 use Rattle.ring_core.specs.Held.{Held, paged, Becomes}
 use Rattle.ring_core.specs.Puts.{put_in}

@@ -1,31 +1,29 @@
 -- Laws of pages that come back as they were lent, and of homes that are settled as they were.
-use Rattle.std.proofs.Common.{◌≡◌, ◌≢◌, ℕ, zero, suc, ◌+◌, ◌*◌, ◌<◌, ◌≤◌, Bool, true, false, ◌&&◌, if◌then◌else◌, IsTrue, List, [], ◌∷◌, ◌++◌, length, take, drop, slice_index, map, Option, Some, None, unwrap_or, ⊎_elim, refl, sym, ap, ◌∙◌, subst, arith, length-drop}
+use Rattle.std.proofs.Common.{◌≡◌, ◌≢◌, ℕ, suc, ◌+◌, ◌<◌, ◌≤◌, Bool, true, false, if◌then◌else◌, IsTrue, List, [], ◌∷◌, ◌++◌, length, take, drop, slice_index, Option, Some, None, unwrap_or, ⊎_elim, refl, sym, ap, ◌∙◌, subst, arith, length-drop}
 use Rattle.std.specs.Prelude.{is_some, slice_index_or}
-use Rattle.std.specs.List.{All, list_all}
+use Rattle.std.specs.List.{list_all}
 use Rattle.std.proofs.Math.Seq.{take-append_seam, drop-append_seam}
-use Rattle.std.proofs.lemmas.List.{length-map, same_lists, get_or_default, take-append-drop, drop-drop, length-take-le}
-use Rattle.std.proofs.lemmas.Option.{none-some}
+use Rattle.std.proofs.lemmas.List.{same_lists, get_or_default, take-append-drop, drop-drop, length-take-le}
 use Rattle.argo_base.specs.declared.ring_key.RingKey.{RingKey}
 use Rattle.argo_base.proofs.SlotLaws.{legal, page_count_most}
 use Rattle.argo_base.specs.Layout.{u32_bytes}
 use Rattle.argo_base.specs.Numbers as numbers
 use Rattle.argo_base.specs.Slots.{is_legal, is_place, page_count}
 use Rattle.argo_base.specs.Splice.{splice}
-use Rattle.argo_base.proofs.SpliceLaws.{length-splice, take-splice_before, drop-splice_after}
+use Rattle.argo_base.proofs.SpliceLaws.{take-splice_before, drop-splice_after}
 use Rattle.argo_model.specs.Rules.RingBytes.{PagedRing, tx_word}
 use Rattle.argo_model.specs.Rules.Register.{new_ring}
-use Rattle.argo_model.specs.Rules.Starts.{started, started_ring, bytes_after_start}
+use Rattle.argo_model.specs.Rules.Starts.{started_ring, bytes_after_start}
 use Rattle.argo_model.specs.Rules.State.{Ring}
 use Rattle.guest_pages.specs.Pages.{page_at, can_lend, row_of, without, with_row}
-use Rattle.guest_pages.specs.Rows.{numbers_of, row_bytes, page_in}
+use Rattle.guest_pages.specs.Rows.{numbers_of, row_bytes}
 use Rattle.guest_pages.proofs.FlatLaws.{length-row_bytes}
 use Rattle.ring_core.specs.Held.{Held, paged}
 use Rattle.ring_core.specs.Restarts.{ring_on}
 use Rattle.ring_core.proofs.TestLaws.{and_also}
-use Rattle.paged_live.specs.declared.home.Home.{Home}
 use Rattle.paged_live.specs.Homes.{home, home_at, settled, cleared}
 use Rattle.paged_live.specs.Store.{piece}
-use Rattle.paged_live.specs.Parts.{Rows, Parts, store_of, seen, IsParts}
+use Rattle.paged_live.specs.Parts.{Parts, store_of, IsParts}
 use Rattle.paged_live.proofs.PageLaws.{Differ, At, at_or_not}
 use Rattle.paged_live.proofs.StoreLaws.{own_page, pages_differ}
 use Rattle.paged_live.proofs.PartsLaws.{Found, found_stood}

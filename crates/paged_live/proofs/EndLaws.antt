@@ -1,13 +1,11 @@
 -- Laws of a domain of which one ring ends.
-use Rattle.std.proofs.Common.{◌≡◌, ◌≢◌, ℕ, ◌+◌, ◌*◌, ◌<◌, Bool, true, false, true≢false, cond, List, [], ◌∷◌, ◌++◌, length, take, drop, slice_index, slice_get, map, Option, Some, None, option_map, ⊎_elim, refl, sym, ap, ◌∙◌, subst, arith}
+use Rattle.std.proofs.Common.{◌≡◌, ℕ, ◌<◌, Bool, true, false, true≢false, cond, List, [], ◌∷◌, ◌++◌, length, take, drop, slice_index, slice_get, Option, Some, None, option_map, ⊎_elim, refl, sym, ap, ◌∙◌, arith}
 use Rattle.std.specs.Prelude.{is_some, not}
 use Rattle.std.specs.Borrow.{Bor}
 use Rattle.std.specs.Option.{option_copied}
-use Rattle.std.specs.List.Sorted.{IsStrictlySortedBy}
-use Rattle.std.specs.Map.{keys_of, lookup, remove_entry}
+use Rattle.std.specs.Map.{remove_entry}
 use Rattle.std.specs.BTreeMap.{is_at}
 use Rattle.std.proofs.Math.Seq.{take-append_seam}
-use Rattle.std.proofs.lemmas.List.{length-map}
 use Rattle.std.proofs.lemmas.Option.{none-some, same_Some}
 use Rattle.std.proofs.lemmas.Map.Made.{lookup-map_values}
 use Rattle.argo_base.specs.declared.ring_key.RingKey.{RingKey}
@@ -19,17 +17,16 @@ use Rattle.argo_model.specs.Rules.Effects.{Change, after, refuse_if, leaving}
 use Rattle.argo_model.specs.Rules.Register.{has_ring, own_ring, without_ring}
 use Rattle.argo_model.specs.Rules.State.{Ring, Live}
 use Rattle.guest_pages.specs.Pages.{with_row}
-use Rattle.guest_pages.specs.Rows.{numbers_of, row_bytes}
+use Rattle.guest_pages.specs.Rows.{numbers_of}
 use Rattle.ring_core.specs.Held.{Held, paged}
-use Rattle.ring_table.specs.Rows.{Held as Row, held, held_at, row_of}
+use Rattle.ring_table.specs.Rows.{Held as Row, held_at, row_of}
 use Rattle.ring_table.specs.Edits.{without_row}
 use Rattle.ring_table.proofs.BucketLaws.{key_total, key_itself}
 use Rattle.ring_table.proofs.EntryLaws.{sorted-remove, remove-absent}
 use Rattle.paged_live.specs.declared.home.Home.{Home}
 use Rattle.paged_live.specs.Ends.{take_away}
 use Rattle.paged_live.specs.Homes.{cleared}
-use Rattle.paged_live.specs.Store.{Store, memory, IsStore}
-use Rattle.paged_live.specs.Parts.{Rows, Parts, stood, store_of, ring_of, rings_of, seen, AreNamed, IsParts}
+use Rattle.paged_live.specs.Parts.{Rows, Parts, stood, store_of, ring_of, rings_of, seen, IsParts}
 use Rattle.paged_live.proofs.PageLaws.{Differ}
 use Rattle.paged_live.proofs.StoreLaws.{same_key_or_not, own_page, pages_differ}
 use Rattle.paged_live.proofs.MoveLaws.{Returned, returned_store, returned_memory}

@@ -1,7 +1,6 @@
 -- Laws of what a report shows of a domain's rings.
-use Rattle.std.proofs.Common.{◌≡◌, ℕ, zero, suc, true, cond, List, [], ◌∷◌, map, Option, Some, None, option_map, slice_get, refl, sym, ap, ◌∙◌}
+use Rattle.std.proofs.Common.{◌≡◌, ℕ, zero, suc, true, cond, [], ◌∷◌, map, Some, None, option_map, slice_get, refl, sym, ap, ◌∙◌}
 use Rattle.std.specs.Map.{keys_of, lookup, remove_entry}
-use Rattle.std.specs.Prelude.{take, drop}
 use Rattle.std.specs.BTreeMap.{is_at}
 use Rattle.std.proofs.lemmas.Option.{same_Some, none-some}
 use Rattle.std.proofs.lemmas.Map.Entries.{lookup_from_place}
@@ -9,15 +8,13 @@ use Rattle.std.proofs.lemmas.Map.Keys.{IsDistinct-from_sorted}
 use Rattle.std.proofs.lemmas.Cmp.{eq_by_cmp_equiv}
 use Rattle.argo_base.specs.declared.ring_key.RingKey.{RingKey}
 use Rattle.argo_base.specs.Match.{key_cmp}
-use Rattle.argo_model.specs.declared.closing.FinalRing.{FinalRing}
-use Rattle.argo_model.specs.Rules.State.{Ring}
 use Rattle.argo_model.specs.Rules.RingBytes.{slots}
 use Rattle.argo_model.specs.Runs.Final.{final_ring, notice_line_of}
-use Rattle.ring_core.specs.Held.{Held, paged}
+use Rattle.ring_core.specs.Held.{Held}
 use Rattle.ring_table.specs.Rows.{Held as Row, held, held_at, value_at}
 use Rattle.ring_table.specs.Edits.{without_row}
 use Rattle.ring_table.proofs.BucketLaws.{key_total, key_itself}
-use Rattle.paged_live.specs.Finals.{final_of, IsFirst, TookFirst}
+use Rattle.paged_live.specs.Finals.{final_of, IsFirst}
 use Rattle.paged_live.specs.Parts.{Rows, Parts, stood, store_of, ring_of, rings_of, seen, IsParts}
 use Rattle.paged_live.proofs.StoreLaws.{own_bytes}
 

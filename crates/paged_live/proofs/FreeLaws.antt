@@ -1,8 +1,8 @@
 -- Laws of the pages that a ring may stand on: those that can be lent.
-use Rattle.std.proofs.Common.{◌≡◌, ◌≢◌, ℕ, zero, suc, ◌+◌, ◌*◌, ◌<◌, ◌≤◌, Bool, true, false, cond, ◌&&◌, ◌||◌, ◌==◌, nat_lt, List, [], ◌∷◌, length, slice_index, slice_get, map, Option, Some, None, option_map, unwrap_or, IsTrue, ⊎_elim, refl, sym, ap, ◌∙◌, subst, arith}
+use Rattle.std.proofs.Common.{◌≡◌, ◌≢◌, ℕ, zero, suc, ◌*◌, ◌<◌, ◌≤◌, Bool, true, false, cond, ◌&&◌, ◌||◌, nat_lt, List, [], ◌∷◌, length, slice_index, slice_get, Option, Some, None, option_map, unwrap_or, IsTrue, ⊎_elim, refl, sym, ap, ◌∙◌, subst, arith}
 use Rattle.std.specs.Prelude.{not, is_some}
-use Rattle.std.specs.List.{All, list_all, list_any}
-use Rattle.std.specs.Map.{keys_of, lookup, remove_entry}
+use Rattle.std.specs.List.{list_all, list_any}
+use Rattle.std.specs.Map.{keys_of, remove_entry}
 use Rattle.std.specs.BTreeMap.{is_at}
 use Rattle.std.proofs.lemmas.Bool.{cases_lt}
 use Rattle.std.proofs.lemmas.Bool.Decides.{nat_tests}
@@ -21,13 +21,11 @@ use Rattle.argo_base.specs.Numbers as numbers
 use Rattle.guest_pages.specs.Pages.{page_at, can_lend, row_of}
 use Rattle.guest_pages.specs.Rows.{numbers_of, row_bytes, page_in}
 use Rattle.guest_pages.proofs.FlatLaws.{length-row_bytes}
-use Rattle.ring_core.specs.Held.{Held, paged}
-use Rattle.ring_table.specs.Rows.{Held as Row, held, held_at}
-use Rattle.ring_table.proofs.BucketLaws.{key_total, key_is, key_itself}
-use Rattle.paged_live.specs.Homes.{home, home_at}
-use Rattle.paged_live.specs.Store.{Store, piece, memory, Lies, IsStore}
-use Rattle.paged_live.specs.Parts.{Rows, Parts, stood, store_of, ring_of, rings_of, seen, IsParts}
-use Rattle.paged_live.proofs.PageLaws.{Differ, At, at_or_not}
+use Rattle.ring_core.specs.Held.{Held}
+use Rattle.ring_table.specs.Rows.{Held as Row, held_at}
+use Rattle.ring_table.proofs.BucketLaws.{key_total}
+use Rattle.paged_live.specs.Store.{Lies}
+use Rattle.paged_live.specs.Parts.{Parts, stood, store_of, ring_of, rings_of, seen, IsParts}
 use Rattle.paged_live.proofs.StoreLaws.{Alone, Lent, alone_or_lent, not_own}
 use Rattle.paged_live.proofs.MoveLaws.{Apart, free_bytes}
 use Rattle.paged_live.proofs.RowLaws.{at_other}

@@ -1,16 +1,16 @@
 -- Laws of a domain as it starts.
-use Rattle.std.proofs.Common.{◌≡◌, ℕ, zero, suc, ◌+◌, ◌*◌, ◌<◌, ◌≤◌, List, [], ◌++◌, length, replicate, Option, Some, None, ⊎_elim, false, refl, sym, ap, ◌∙◌, arith}
+use Rattle.std.proofs.Common.{◌≡◌, ℕ, zero, suc, ◌*◌, ◌<◌, ◌≤◌, List, [], ◌++◌, length, replicate, Option, Some, None, ⊎_elim, false, refl, sym, ap, ◌∙◌, arith}
 use Rattle.std.proofs.lemmas.Bool.{cases_lt}
 use Rattle.std.proofs.lemmas.List.{get_or-replicate, get_or_past, length-replicate, replicate-append-replicate}
 use Rattle.std.proofs.lemmas.Option.{same_Some, none-some}
 use Rattle.std.specs.List.Sorted.{IsStrictlySortedBy}
-use Rattle.argo_model.specs.Rules.State.{Live, fresh_live}
+use Rattle.argo_model.specs.Rules.State.{fresh_live}
 use Rattle.guest_pages.specs.PageBytes.{zero_page}
 use Rattle.guest_pages.proofs.PageLaws.{length-zero_page}
 use Rattle.ring_core.specs.Flat.{flat}
 use Rattle.paged_live.specs.declared.home.Home.{Home}
-use Rattle.paged_live.specs.Store.{Store, page_of, memory, IsStore}
-use Rattle.paged_live.specs.Parts.{Rows, Parts, store_of, seen, AreNamed, IsParts}
+use Rattle.paged_live.specs.Store.{page_of, IsStore}
+use Rattle.paged_live.specs.Parts.{Rows, Parts, store_of, seen, IsParts}
 use Rattle.paged_live.proofs.PageLaws.{flat_same}
 use Rattle.paged_live.proofs.StoreLaws.{alone_is}
 

@@ -1,14 +1,13 @@
 -- Laws of homes, and of pages by their numbers, as they change along a list.
-use Rattle.std.proofs.Common.{◌≡◌, ◌≢◌, ℕ, zero, suc, ◌+◌, ◌*◌, ◌<◌, ◌≤◌, List, [], ◌∷◌, length, take, drop, slice_index, map, Option, Some, None, unwrap_or, ⊎_elim, refl, sym, ap, ◌∙◌, subst, arith}
-use Rattle.std.specs.Prelude.{slice_set, slice_index_or}
+use Rattle.std.proofs.Common.{◌≡◌, ◌≢◌, ℕ, zero, suc, ◌+◌, ◌<◌, List, [], ◌∷◌, length, take, drop, slice_index, Option, Some, None, ⊎_elim, refl, sym, ap, ◌∙◌, arith}
+use Rattle.std.specs.Prelude.{slice_set}
 use Rattle.std.specs.List.{All}
 use Rattle.std.proofs.lemmas.Bool.{cases_eq, cases_lt}
 use Rattle.std.proofs.lemmas.List.{length-set, length-map, get_or-set_same, get_or-set_other, get_or_past, take_all}
 use Rattle.argo_base.specs.declared.ring_key.RingKey.{RingKey}
-use Rattle.guest_pages.specs.Pages.{page_at, without, with_row, row_of}
+use Rattle.guest_pages.specs.Pages.{page_at, without, with_row}
 use Rattle.guest_pages.specs.Rows.{numbers_of, row_bytes, page_in}
 use Rattle.guest_pages.proofs.FlatLaws.{page-row_bytes}
-use Rattle.std.proofs.lemmas.List.Elements.{All-head, All-tail}
 use Rattle.paged_live.specs.declared.home.Home.{Home}
 use Rattle.paged_live.specs.Homes.{home, home_at, with_home, settled, cleared}
 use Rattle.paged_live.specs.Store.{piece}

@@ -1,43 +1,31 @@
 -- Laws of a domain to which a ring comes, on pages that stood by themselves.
-use Rattle.std.proofs.Common.{◌≡◌, ◌≢◌, ℕ, zero, suc, ◌+◌, ◌*◌, ◌<◌, ◌≤◌, Bool, true, false, ◌&&◌, ◌||◌, ◌==◌, nat_lt, List, [], ◌∷◌, length, slice_index, slice_get, map, Option, Some, None, option_map, unwrap_or, IsTrue, ◌⊎◌, inl, inr, ⊎_elim, refl, sym, ap, ◌∙◌, subst, arith}
+use Rattle.std.proofs.Common.{◌≡◌, ◌≢◌, ℕ, zero, suc, ◌*◌, ◌<◌, ◌≤◌, Bool, true, false, ◌||◌, ◌==◌, List, [], ◌∷◌, length, slice_index, Option, Some, None, option_map, IsTrue, ◌⊎◌, inl, inr, ⊎_elim, refl, sym, ap, ◌∙◌, subst, arith}
 use Rattle.std.specs.Prelude.{not, is_some}
-use Rattle.std.specs.List.{All, list_all, list_any}
-use Rattle.std.specs.List.Sorted.{IsStrictlySortedBy}
-use Rattle.std.specs.Map.{keys_of, lookup}
-use Rattle.std.specs.BTreeMap.{is_at, insert_entry}
-use Rattle.std.proofs.lemmas.Bool.{cases_eq, cases_lt, cases_Bool, false≢true}
-use Rattle.std.proofs.lemmas.Bool.Decides.{nat_tests}
-use Rattle.std.proofs.lemmas.List.{length-map, get_or-map}
-use Rattle.std.proofs.lemmas.List.Elements.{All-nil, All-cons}
-use Rattle.std.proofs.lemmas.Option.{same_Some, none-some}
-use Rattle.std.proofs.lemmas.Map.Entries.{lookup_from_place}
-use Rattle.std.proofs.lemmas.Map.Keys.{IsDistinct-from_sorted}
-use Rattle.std.proofs.lemmas.Cmp.{eq_by_cmp_equiv}
+use Rattle.std.specs.List.{list_all}
+use Rattle.std.specs.BTreeMap.{insert_entry}
+use Rattle.std.proofs.lemmas.Bool.{cases_eq, false≢true}
+use Rattle.std.proofs.lemmas.List.{length-map}
+use Rattle.std.proofs.lemmas.Option.{same_Some}
 use Rattle.argo_base.specs.declared.ring_key.RingKey.{RingKey}
 use Rattle.argo_base.specs.Match.{key_cmp, key_in}
-use Rattle.argo_model.specs.Rules.State.{Ring, Live, has_page}
-use Rattle.argo_model.specs.Rules.Register.{new_ring, is_free_for, are_free_for}
-use Rattle.argo_model.specs.Rules.Register as rules
-use Rattle.argo_model.specs.Rules.RingBytes.{PagedRing, paged as paged_in, ring_bytes, laid}
+use Rattle.argo_model.specs.Rules.RingBytes.{PagedRing, laid}
 use Rattle.argo_base.specs.Numbers as numbers
 use Rattle.guest_pages.specs.Pages.{page_at, can_lend, row_of, without}
-use Rattle.guest_pages.specs.Rows.{numbers_of, row_bytes, page_in}
-use Rattle.guest_pages.proofs.FlatLaws.{length-row_bytes}
+use Rattle.guest_pages.specs.Rows.{numbers_of, row_bytes}
 use Rattle.ring_core.specs.Held.{Held, paged}
 use Rattle.ring_core.proofs.TestLaws.{same_number, other_number, both}
 use Rattle.ring_table.specs.Rows.{Held as Row, held, held_at}
 use Rattle.ring_table.specs.Edits.{with_row}
-use Rattle.ring_table.proofs.BucketLaws.{key_total, key_is, key_itself}
+use Rattle.ring_table.proofs.BucketLaws.{key_total}
 use Rattle.ring_table.proofs.EntryLaws.{sorted-insert}
 use Rattle.paged_live.specs.Homes.{home, home_at, settled}
-use Rattle.paged_live.specs.Store.{Store, piece, memory, IsStore}
-use Rattle.paged_live.specs.Parts.{Rows, Parts, stood, store_of, ring_of, rings_of, seen, AreNamed, IsParts}
-use Rattle.paged_live.proofs.PageLaws.{Differ, At, at_or_not}
-use Rattle.paged_live.proofs.StoreLaws.{same_key_or_not, Alone, Lent, alone_or_lent, at_home, elsewhere}
-use Rattle.paged_live.proofs.MoveLaws.{Apart, Joined, joined_store, joined_memory, free_bytes}
+use Rattle.paged_live.specs.Store.{Store}
+use Rattle.paged_live.specs.Parts.{Parts, stood, store_of, ring_of, seen, IsParts}
+use Rattle.paged_live.proofs.PageLaws.{Differ, At}
+use Rattle.paged_live.proofs.StoreLaws.{same_key_or_not, Alone}
+use Rattle.paged_live.proofs.MoveLaws.{Apart, Joined, joined_store, joined_memory}
 use Rattle.paged_live.proofs.RowLaws.{insert_here, insert_other, map-insert_entry}
-use Rattle.paged_live.proofs.PutLaws.{shown_at, rings_rising, page_is_there, ring_at}
-use Rattle.paged_live.proofs.HomeLaws.{AreWhole, row_piece, length-settled, settled_at, settled_other, length-without, without_at, without_other}
+use Rattle.paged_live.proofs.HomeLaws.{length-settled, settled_at, settled_other, length-without, without_at, without_other}
 
 -- ---- numbers that differ
 

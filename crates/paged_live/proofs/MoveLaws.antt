@@ -1,5 +1,5 @@
 -- Laws of pages that move into a ring and back.
-use Rattle.std.proofs.Common.{◌≡◌, ◌≢◌, ℕ, ◌+◌, ◌*◌, ◌<◌, ◌≤◌, List, length, take, drop, slice_index, Option, Some, None, option_map, unwrap_or, ◌⊎◌, inl, inr, ⊎_elim, refl, sym, ap, ◌∙◌, subst, arith}
+use Rattle.std.proofs.Common.{◌≡◌, ◌≢◌, ℕ, ◌*◌, ◌<◌, List, length, slice_index, Some, None, ⊎_elim, sym, ap, ◌∙◌, subst}
 use Rattle.std.proofs.lemmas.Option.{none-some, same_Some}
 use Rattle.argo_base.specs.declared.ring_key.RingKey.{RingKey}
 use Rattle.paged_live.specs.declared.home.Home.{Home}
@@ -8,7 +8,7 @@ use Rattle.ring_core.specs.Flat.{flat}
 use Rattle.paged_live.specs.Homes.{home}
 use Rattle.paged_live.specs.Store.{Store, piece, page_of, memory, Lies, IsStore}
 use Rattle.paged_live.proofs.PageLaws.{Differ, At, at_or_not, flat_same, own_in_flat, laid_flat, with_own, with_own_other, with_own_at}
-use Rattle.paged_live.proofs.StoreLaws.{same_key_or_not, Alone, Lent, alone_or_lent, no_page, alone_is, lent_is, own_page, are_pages, pages_differ, length-piece, at_home, elsewhere, not_own}
+use Rattle.paged_live.proofs.StoreLaws.{same_key_or_not, Alone, Lent, alone_or_lent, alone_is, lent_is, own_page, are_pages, length-piece, at_home, elsewhere}
 
 abbrev pub Apart : List ℕ → ℕ → Type 0
 Apart pages n = (i : ℕ) → i < length pages → slice_index pages i ≢ n

@@ -1,19 +1,16 @@
 -- Laws of a notice that ends on one ring of a domain.
-use Rattle.std.proofs.Common.{◌≡◌, ℕ, List, Option, Some, None, option_map, refl, sym, ap, ◌∙◌}
-use Rattle.std.specs.Map.{lookup, set_value}
+use Rattle.std.proofs.Common.{◌≡◌, ℕ, Option, Some, None, option_map, refl, sym, ap, ◌∙◌}
+use Rattle.std.specs.Map.{set_value}
 use Rattle.std.specs.BTreeMap.{is_at}
 use Rattle.std.proofs.lemmas.Map.Made.{lookup-map_values}
 use Rattle.argo_base.specs.declared.ring_key.RingKey.{RingKey}
 use Rattle.argo_base.specs.Match.{key_cmp}
-use Rattle.argo_model.specs.Rules.State.{Ring, Live}
 use Rattle.argo_model.specs.Rules.Destroy.{ring_without}
-use Rattle.argo_model.specs.Rules.Register.{own_ring, has_ring}
-use Rattle.argo_model.specs.Rules.RingBytes.{PagedRing, set_paged, laid}
+use Rattle.argo_model.specs.Rules.RingBytes.{set_paged, laid}
 use Rattle.ring_core.specs.Held.{Held, paged, Becomes}
-use Rattle.ring_table.specs.Rows.{Held as Row, held, held_at, value_at}
-use Rattle.paged_live.specs.Ends.{forgotten, set_ring, without_notice, without_notice_at}
-use Rattle.paged_live.specs.Store.{Store, IsStore}
-use Rattle.paged_live.specs.Parts.{Rows, Parts, store_of, ring_of, rings_of, seen, IsParts, StandsStill}
+use Rattle.ring_table.specs.Rows.{Held as Row, held_at, value_at}
+use Rattle.paged_live.specs.Ends.{forgotten, without_notice, without_notice_at}
+use Rattle.paged_live.specs.Parts.{Rows, Parts, store_of, ring_of, seen, IsParts, StandsStill}
 use Rattle.paged_live.proofs.StoreLaws.{Wrote, wrote_memory}
 use Rattle.paged_live.proofs.PartsLaws.{Found, found_stood, ring_seen, with_ring, changed_seen}
 

@@ -1,10 +1,10 @@
 -- Laws of the pages of a domain as its memory.
-use Rattle.std.proofs.Common.{◌≡◌, ◌≢◌, ℕ, zero, suc, ◌+◌, ◌-◌, ◌*◌, ◌<◌, ◌≤◌, Bool, true, false, if◌then◌else◌, ◌==◌, List, [], ◌∷◌, ◌++◌, length, take, drop, slice_index, ◌⊎◌, inl, inr, ⊎_elim, refl, sym, ap, ◌∙◌, subst, arith, length-append, length-take, length-drop}
+use Rattle.std.proofs.Common.{◌≡◌, ◌≢◌, ℕ, zero, suc, ◌+◌, ◌-◌, ◌*◌, ◌<◌, ◌≤◌, if◌then◌else◌, List, [], ◌∷◌, ◌++◌, length, take, drop, slice_index, ◌⊎◌, inl, inr, ⊎_elim, refl, sym, ap, ◌∙◌, arith, length-append, length-drop}
 use Rattle.std.proofs.lemmas.Bool.{cases_eq}
 use Rattle.std.proofs.lemmas.List.{append-nil, length-take-le, take_all, drop-drop, take-append-drop}
 use Rattle.std.proofs.lemmas.List.Elements.{All-nil, All-cons}
 use Rattle.argo_base.specs.Splice.{splice}
-use Rattle.argo_base.proofs.SpliceLaws.{splice-append_left, length-splice, part-splice, take-splice_before, drop-splice_after, splice-append_right}
+use Rattle.argo_base.proofs.SpliceLaws.{splice-append_left, length-splice, splice-append_right}
 use Rattle.argo_model.specs.Rules.RingBytes.{ring_bytes, laid}
 use Rattle.ring_core.specs.Flat.{flat, ArePages, with_page}
 use Rattle.paged_live.specs.Store.{piece}

@@ -1,5 +1,5 @@
 -- Laws of a domain of which one ring changes on its pages.
-use Rattle.std.proofs.Common.{◌≡◌, ◌≢◌, ℕ, ◌+◌, ◌*◌, ◌<◌, ◌≤◌, List, length, map, Option, Some, None, option_map, unwrap_or, Result, Ok, Err, OnErr, ⊎_elim, refl, sym, ap, ◌∙◌, subst, arith}
+use Rattle.std.proofs.Common.{◌≡◌, ◌≢◌, ℕ, ◌*◌, List, Option, Some, None, option_map, unwrap_or, Result, Ok, Err, OnErr, ⊎_elim, refl, sym, ap, ◌∙◌, subst}
 use Rattle.std.specs.List.Sorted.{IsStrictlySortedBy}
 use Rattle.std.specs.Map.{lookup, keys_of, set_value}
 use Rattle.std.specs.Option.{option_or}
@@ -11,16 +11,15 @@ use Rattle.std.proofs.lemmas.Map.Made.{lookup-map_values}
 use Rattle.std.proofs.lemmas.Map.Steps.{set_value_same}
 use Rattle.argo_base.specs.declared.ring_key.RingKey.{RingKey}
 use Rattle.argo_base.specs.Match.{key_cmp, key_of, key_in, wildcard, at_key, match_of}
-use Rattle.argo_model.specs.Rules.State.{Ring, Live}
+use Rattle.argo_model.specs.Rules.State.{Ring}
 use Rattle.argo_model.specs.Rules.Effects.{Change, lifted, after}
-use Rattle.argo_model.specs.Rules.RingBytes.{PagedRing, paged as paged_in, set_paged, laid, ring_bytes}
+use Rattle.argo_model.specs.Rules.RingBytes.{PagedRing, paged as paged_in, set_paged, laid}
 use Rattle.guest_pages.specs.Rows.{numbers_of, row_bytes}
 use Rattle.ring_core.specs.Held.{Held, paged, Becomes}
 use Rattle.ring_table.specs.declared.row.Row.{Row as TableRow}
 use Rattle.ring_table.specs.Rows.{Held as Row, held, held_at, value_at, row_of}
 use Rattle.ring_table.specs.Edits.{with_value}
-use Rattle.paged_live.specs.Store.{Store, memory, IsStore}
-use Rattle.paged_live.specs.Parts.{Rows, Parts, stood, ring_in, store_of, ring_of, rings_of, seen, AreNamed, IsParts, StandsStill}
+use Rattle.paged_live.specs.Parts.{Rows, Parts, stood, ring_in, store_of, ring_of, rings_of, seen, IsParts, StandsStill}
 use Rattle.paged_live.proofs.StoreLaws.{same_key_or_not, own_bytes, Wrote, wrote_store, wrote_memory}
 use Rattle.paged_live.proofs.RowLaws.{set_here, set_other, map-set_value}
 

@@ -1,5 +1,5 @@
 -- Laws of reads of a domain's pages, and of puts into them.
-use Rattle.std.proofs.Common.{◌≡◌, ◌≢◌, ℕ, zero, suc, ◌+◌, ◌-◌, ◌*◌, ◌/◌, ◌<◌, ◌≤◌, Bool, true, false, ◌==◌, cond, nat_lt, if◌then◌else◌, List, [], ◌∷◌, length, take, drop, slice_index, slice_get, map, position, Option, Some, None, option_map, unwrap_or, ⊎_elim, refl, sym, ap, ◌∙◌, subst, arith, length-drop}
+use Rattle.std.proofs.Common.{◌≡◌, ◌≢◌, ℕ, zero, suc, ◌+◌, ◌-◌, ◌*◌, ◌/◌, ◌<◌, ◌≤◌, Bool, true, false, ◌==◌, cond, nat_lt, if◌then◌else◌, List, [], ◌∷◌, length, take, drop, slice_index, slice_get, map, position, Option, Some, None, option_map, unwrap_or, ⊎_elim, refl, sym, ap, ◌∙◌, subst, arith}
 use Rattle.std.specs.Prelude.{not, slice_set, is_some}
 use Rattle.std.specs.List.{prefix_len}
 use Rattle.std.proofs.lemmas.Bool.{cases_lt}
@@ -17,10 +17,10 @@ use Rattle.argo_base.specs.declared.ring_key.RingKey.{RingKey}
 use Rattle.argo_base.specs.Match.{key_cmp, at_key}
 use Rattle.argo_base.specs.Splice.{splice}
 use Rattle.argo_model.specs.Rules.State.{Ring, Live, has_page}
-use Rattle.argo_model.specs.Rules.Puts.{after_put, put_into, byte_at, ring_after_put, clean_after, moves, touches, dirtied}
+use Rattle.argo_model.specs.Rules.Puts.{after_put, put_into, ring_after_put, clean_after, moves, touches, dirtied}
 use Rattle.argo_model.specs.Rules.RingBytes.{PagedRing, paged as paged_in}
 use Rattle.argo_model.specs.Rules.Act as acts
-use Rattle.argo_model.specs.Rules.Effects.{Change, after, leaving, answered}
+use Rattle.argo_model.specs.Rules.Effects.{after, leaving, answered}
 use Rattle.argo_model.specs.declared.action.Outcome.TheVariants.{Done, Bytes, Fault}
 use Rattle.guest_pages.specs.Pages.{page_at, with_written}
 use Rattle.guest_pages.specs.Rows.{numbers_of, row_bytes}
@@ -32,10 +32,10 @@ use Rattle.ring_table.proofs.BucketLaws.{key_total, key_exact, key_is}
 use Rattle.ring_table.proofs.EntryLaws.{same_entries}
 use Rattle.paged_live.specs.declared.home.Home.{Home}
 use Rattle.paged_live.specs.Homes.{home, home_at}
-use Rattle.paged_live.specs.Store.{Store, piece, page_of, memory, IsStore}
-use Rattle.paged_live.specs.Parts.{Rows, Parts, stood, ring_in, store_of, ring_of, rings_of, seen, AreNamed, IsParts, StandsStill}
-use Rattle.paged_live.proofs.PageLaws.{Differ, At, length-flat, page_in_flat}
-use Rattle.paged_live.proofs.StoreLaws.{same_key_or_not, are_pages, alone_is, lent_is, no_page, pages_differ, at_home, elsewhere, not_own, Put, put_store, put_alone_memory, put_memory, Wrote}
+use Rattle.paged_live.specs.Store.{page_of, memory}
+use Rattle.paged_live.specs.Parts.{Rows, Parts, stood, store_of, ring_of, rings_of, seen, IsParts, StandsStill}
+use Rattle.paged_live.proofs.PageLaws.{Differ, length-flat, page_in_flat}
+use Rattle.paged_live.proofs.StoreLaws.{same_key_or_not, are_pages, alone_is, lent_is, no_page, pages_differ, at_home, elsewhere, not_own, Put, put_store, put_alone_memory, put_memory}
 use Rattle.paged_live.proofs.MoveLaws.{Apart}
 use Rattle.paged_live.proofs.RowLaws.{set_here, set_other, map-set_value}
 use Rattle.paged_live.proofs.PartsLaws.{Found, found_stood, ring_seen, paged_seen, with_ring, with_value_is, changed_wrote}

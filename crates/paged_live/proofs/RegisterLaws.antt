@@ -1,18 +1,18 @@
 -- Laws of rings that are registered, and registered anew.
-use Rattle.std.proofs.Common.{◌≡◌, ◌≢◌, ℕ, ◌+◌, ◌*◌, ◌<◌, ◌≤◌, Bool, true, false, IsTrue, List, [], length, slice_index, map, filter, Option, Some, None, option_map, ⊎_elim, refl, sym, ap, ◌∙◌, subst, arith}
+use Rattle.std.proofs.Common.{◌≡◌, ◌≢◌, ℕ, ◌+◌, ◌*◌, IsTrue, List, length, Option, Some, None, option_map, ⊎_elim, refl, sym, ap, ◌∙◌, subst, arith}
 use Rattle.std.specs.List.Sorted.{IsStrictlySortedBy}
-use Rattle.std.specs.Map.{keys_of, lookup, set_value}
+use Rattle.std.specs.Map.{set_value}
 use Rattle.std.specs.BTreeMap.{is_at, insert_entry}
 use Rattle.std.proofs.lemmas.Map.{keys-set_value}
 use Rattle.std.proofs.lemmas.Map.Made.{lookup-map_values}
 use Rattle.std.proofs.lemmas.Option.{none-some}
 use Rattle.argo_base.specs.declared.ring_key.RingKey.{RingKey}
 use Rattle.argo_base.specs.Match.{key_cmp, key_in}
-use Rattle.argo_model.specs.Rules.State.{Ring, Live}
-use Rattle.argo_model.specs.Rules.Register.{new_ring, add_paged, own_ring, resized, are_free_for, without_ring}
+use Rattle.argo_model.specs.Rules.State.{Live}
+use Rattle.argo_model.specs.Rules.Register.{new_ring, add_paged, own_ring, resized, are_free_for}
 use Rattle.argo_model.specs.Rules.RingBytes.{PagedRing, paged as paged_in, set_paged, ring_bytes, laid}
 use Rattle.argo_model.specs.Rules.Starts.{started}
-use Rattle.guest_pages.specs.Pages.{can_lend, row_of, without, with_row}
+use Rattle.guest_pages.specs.Pages.{can_lend, row_of, without}
 use Rattle.guest_pages.specs.Rows.{numbers_of, row_bytes}
 use Rattle.ring_core.specs.Held.{Held, paged, Becomes}
 use Rattle.ring_core.specs.Restarts.{ring_on, restarted, given_back, lent_bytes}
@@ -22,7 +22,7 @@ use Rattle.ring_table.proofs.BucketLaws.{key_total, key_exact}
 use Rattle.ring_table.proofs.EntryLaws.{same_entries, sorted-insert, sorted-remove}
 use Rattle.paged_live.specs.declared.home.Home.{Home}
 use Rattle.paged_live.specs.Homes.{cleared, settled}
-use Rattle.paged_live.specs.Parts.{Rows, Parts, store_of, ring_of, rings_of, seen, IsParts}
+use Rattle.paged_live.specs.Parts.{Rows, Parts, ring_of, rings_of, seen, IsParts}
 use Rattle.paged_live.proofs.StoreLaws.{same_key_or_not}
 use Rattle.paged_live.proofs.RowLaws.{set_here, set_other, remove_here, remove_other, insert_here, insert_other, map-set_value}
 use Rattle.paged_live.proofs.PartsLaws.{Found, with_value_is}

@@ -1,5 +1,5 @@
 -- Laws of the pages of a domain, where they stand.
-use Rattle.std.proofs.Common.{◌≡◌, ◌≢◌, ℕ, ◌+◌, ◌*◌, ◌<◌, ◌≤◌, List, length, take, drop, slice_index, Option, Some, None, option_map, unwrap_or, ◌⊎◌, inl, inr, ⊎_elim, refl, sym, ap, ◌∙◌, subst, arith, length-take, length-drop}
+use Rattle.std.proofs.Common.{◌≡◌, ◌≢◌, ℕ, ◌+◌, ◌*◌, ◌<◌, ◌≤◌, List, length, take, drop, slice_index, Option, Some, None, option_map, unwrap_or, ◌⊎◌, inl, inr, ⊎_elim, refl, sym, ap, ◌∙◌, subst, arith, length-drop}
 use Rattle.std.proofs.lemmas.Bool.{cases_eq, cases_order}
 use Rattle.std.proofs.lemmas.List.{length-take-le}
 use Rattle.std.proofs.lemmas.Option.{none-some, same_Some}
@@ -12,7 +12,7 @@ use Rattle.guest_pages.specs.PageBytes.{zero_page}
 use Rattle.ring_core.specs.Flat.{flat, ArePages, with_page}
 use Rattle.paged_live.specs.Homes.{home}
 use Rattle.paged_live.specs.Store.{Store, piece, lent_page, page_of, memory, Lies, IsStore}
-use Rattle.paged_live.proofs.PageLaws.{Differ, At, at_or_not, flat_same, flat_written, with_page_same, with_page_other, own_in_flat, laid_flat, with_own, with_own_other, with_own_at}
+use Rattle.paged_live.proofs.PageLaws.{Differ, flat_same, flat_written, with_page_same, with_page_other, own_in_flat, laid_flat, with_own, with_own_other, with_own_at}
 
 -- two keys are one, or not
 pub same_key_or_not : (q key : RingKey) → (q ≡ key) ⊎ (q ≢ key)

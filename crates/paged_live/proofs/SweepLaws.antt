@@ -1,13 +1,11 @@
 -- Laws of the next ring to be swept.
-use Rattle.std.proofs.Common.{◌≡◌, ℕ, zero, suc, ◌<◌, ◌≤◌, Bool, true, false, cond, nat_lt, List, [], ◌∷◌, filter, Option, Some, None, option_map, slice_get, refl, sym, ap, ◌∙◌, subst, arith}
-use Rattle.std.proofs.lemmas.Bool.{cases_Bool}
+use Rattle.std.proofs.Common.{◌≡◌, ℕ, zero, suc, ◌<◌, ◌≤◌, Bool, true, false, cond, nat_lt, List, [], ◌∷◌, filter, Option, Some, None, slice_get, refl, sym, ap, ◌∙◌, subst, arith}
 use Rattle.std.proofs.lemmas.Bool.Decides.{nat_tests}
 use Rattle.std.proofs.lemmas.Option.{same_Some, none-some}
 use Rattle.std.proofs.lemmas.Map.Keys.{IsDistinct-from_sorted}
 use Rattle.std.proofs.lemmas.Map.Entries.{lookup_from_place}
 use Rattle.std.proofs.lemmas.Cmp.{eq_by_cmp_equiv}
 use Rattle.std.specs.List.{best_of}
-use Rattle.std.specs.List.Sorted.{IsStrictlySortedBy}
 use Rattle.std.specs.Map.{lookup, keys_of}
 use Rattle.std.specs.BTreeMap.{is_at}
 use Rattle.argo_base.specs.declared.ring_key.RingKey.{RingKey}
@@ -16,12 +14,12 @@ use Rattle.argo_model.specs.Rules.State.{Ring}
 use Rattle.argo_model.specs.Rules.Sweep.{least_serial, next_ring}
 use Rattle.ring_core.specs.Held.{Held, paged}
 use Rattle.ring_table.specs.declared.row.Row.{Row}
-use Rattle.ring_table.specs.Rows.{Held as InTable, held, held_of, held_at}
+use Rattle.ring_table.specs.Rows.{held, held_of, held_at}
 use Rattle.ring_table.specs.Serials.{NoneAbove, IsNext}
-use Rattle.ring_table.proofs.BucketLaws.{key_total, key_is, key_itself}
-use Rattle.paged_live.specs.Parts.{Rows, Parts, ring_of, rings_of, IsParts}
+use Rattle.ring_table.proofs.BucketLaws.{key_total}
+use Rattle.paged_live.specs.Parts.{Parts, ring_of, rings_of, IsParts}
 use Rattle.paged_live.proofs.PartsLaws.{Found}
-use Rattle.paged_live.proofs.PutLaws.{Shown, shown_at, rings_rising, ring_at}
+use Rattle.paged_live.proofs.PutLaws.{shown_at, rings_rising, ring_at}
 
 abbrev Entry : Type 0
 Entry = RingKey × Ring

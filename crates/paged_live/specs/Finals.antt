@@ -1,5 +1,5 @@
 -- What a report shows of a ring, and rings that are taken out one after another.
-use Rattle.std.specs.Prelude.{◌≡◌, ℕ, List, [], ◌∷◌, map, Option, Some, None}
+use Rattle.std.specs.Prelude.{◌≡◌, ℕ, [], ◌∷◌, map, Option, Some, None}
 use Rattle.argo_base.specs.declared.ring_key.RingKey.{RingKey}
 use Rattle.argo_model.specs.declared.closing.FinalRing.{FinalRing}
 use Rattle.argo_model.specs.Rules.RingBytes.{slots}

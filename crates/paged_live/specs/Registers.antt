@@ -1,5 +1,5 @@
 -- A ring is registered where it may stand on its pages.
-use Rattle.std.specs.Prelude.{ℕ, not, List, Option, Some, None}
+use Rattle.std.specs.Prelude.{ℕ, not, List}
 use Rattle.argo_base.specs.declared.errno.Errno.TheVariants.{Inval}
 use Rattle.argo_base.specs.declared.ring_key.RingKey.{RingKey}
 use Rattle.argo_model.specs.Rules.State.{Live}

@@ -1,4 +1,4 @@
-use Rattle.std.proofs.Common.{◌≡◌, ◌+◌, ◌<◌, ◌∙◌, ℕ, List, length, drop, ap, sym, arith}
+use Rattle.std.proofs.Common.{◌+◌, ◌<◌, ◌∙◌, ℕ, List, length, drop, ap, sym, arith}
 use Rattle.std.proofs.lemmas.List.{length-map}
 use Rattle.guest_pages.specs.Rows.{numbers_of}
 use Rattle.paged_live.specs.Homes.{cleared}

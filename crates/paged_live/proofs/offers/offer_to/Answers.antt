@@ -1,11 +1,11 @@
-use Rattle.std.proofs.Common.{◌≡◌, ℕ, length, refl, sym, ap, ◌∙◌, subst}
+use Rattle.std.proofs.Common.{◌≡◌, ℕ, refl, sym, ap, ◌∙◌, subst}
 use Rattle.argo_model.specs.Rules.Deliver.{Offer, offer}
 use Rattle.argo_model.specs.Rules.Effects.{after}
 use Rattle.argo_model.specs.Rules.RingBytes.{PagedRing}
 use Rattle.guest_pages.proofs.FlatLaws.{length-row_bytes}
 use Rattle.ring_core.specs.Held.{Held, paged}
 use Rattle.paged_live.specs.Parts.{StandsStill}
-use Rattle.paged_live.proofs.ActLaws.{stands_still, offer_pages}
+use Rattle.paged_live.proofs.ActLaws.{offer_pages}
 use Rattle.paged_live.proofs.HomeLaws.{AreWhole}
 use Rattle.paged_live.proofs.offers.offer_to.Goals as goal
 

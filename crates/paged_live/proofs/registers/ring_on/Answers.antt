@@ -1,4 +1,4 @@
-use Rattle.std.proofs.Common.{◌≡◌, subst}
+use Rattle.std.proofs.Common.{subst}
 use Rattle.guest_pages.proofs.FlatLaws.{length-row_bytes}
 use Rattle.paged_live.proofs.HomeLaws.{AreWhole}
 use Rattle.paged_live.proofs.registers.ring_on.Goals as goal

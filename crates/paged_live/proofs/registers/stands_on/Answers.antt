@@ -1,4 +1,4 @@
-use Rattle.std.proofs.Common.{◌≡◌, ◌≢◌, ◌∙◌, ◌<◌, ◌==◌, ℕ, List, length, slice_index, sym, arith}
+use Rattle.std.proofs.Common.{◌≡◌, ◌≢◌, ◌∙◌, ◌<◌, ℕ, List, length, slice_index, sym, arith}
 use Rattle.std.proofs.lemmas.List.{length-map}
 use Rattle.guest_pages.specs.Rows.{numbers_of}
 use Rattle.paged_live.proofs.LoopLaws.{number_of, drops_same, drops_other}

@@ -1,4 +1,4 @@
-use Rattle.std.proofs.Common.{◌≡◌, ◌+◌, ◌≤◌, take, length}
+use Rattle.std.proofs.Common.{◌≡◌, ◌≤◌, take}
 use Rattle.std.specs.Prelude.{vec_capacity}
 use Rattle.argo_base.specs.Limits.{most_notices}
 use Rattle.paged_live.proofs.sweeps.list.Given as goal

@@ -1,4 +1,4 @@
-use Rattle.std.proofs.Common.{◌≡◌, ◌∙◌, refl, subst}
+use Rattle.std.proofs.Common.{◌∙◌, refl, subst}
 use Rattle.argo_model.specs.Rules.Effects.{after}
 use Rattle.argo_model.specs.Rules.Sweep.{sweep_ring}
 use Rattle.guest_pages.proofs.FlatLaws.{length-row_bytes}

@@ -1,4 +1,4 @@
-use Rattle.std.proofs.Common.{◌≡◌, Some, None, option_map, sym, ap, ◌∙◌}
+use Rattle.std.proofs.Common.{sym, ap, ◌∙◌}
 use Rattle.std.specs.Option.{option_copied_mut}
 use Rattle.argo_base.specs.Match.{key_in, match_of}
 use Rattle.argo_model.specs.declared.action.Outcome.TheVariants.{Answer as Answered}
@@ -9,7 +9,7 @@ use Rattle.argo_model.specs.Rules.RingBytes.{set_paged, paged as paged_in}
 use Rattle.ring_core.specs.Held.{paged}
 use Rattle.ring_table.specs.Rows.{held}
 use Rattle.paged_live.specs.Parts.{Parts, seen}
-use Rattle.paged_live.proofs.PartsLaws.{Found, found_value, paged_seen, changed_parts, changed_after, match_is, match_none}
+use Rattle.paged_live.proofs.PartsLaws.{found_value, paged_seen, changed_parts, changed_after, match_is, match_none}
 use Rattle.paged_live.proofs.live.Live.answer.Goals as goal
 
 pub returns-in_default-clause-outcome : goal.returns-in_default-clause-outcome

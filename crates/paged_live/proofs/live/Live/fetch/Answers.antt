@@ -1,9 +1,9 @@
-use Rattle.std.proofs.Common.{◌≡◌, ℕ, List, ◌<◌, ◌∙◌, [], Some, None, length, sym, ap, arith}
+use Rattle.std.proofs.Common.{ℕ, List, ◌∙◌, [], sym, ap, arith}
 use Rattle.std.proofs.lemmas.List.{length-map}
 use Rattle.std.specs.Option.{option_copied}
 use Rattle.argo_model.specs.Rules.Act as acts
 use Rattle.argo_model.specs.Rules.State.{Live}
-use Rattle.argo_model.specs.declared.action.Outcome.TheVariants.{Bytes, Fault}
+use Rattle.argo_model.specs.declared.action.Outcome.TheVariants.{Bytes}
 use Rattle.paged_live.specs.Homes.{home_at}
 use Rattle.paged_live.specs.Parts.{Parts, seen}
 use Rattle.paged_live.proofs.PartsLaws.{found_row}

@@ -1,8 +1,7 @@
-use Rattle.std.proofs.Common.{◌≡◌, ◌∙◌, sym, ap}
+use Rattle.std.proofs.Common.{◌∙◌, sym, ap}
 use Rattle.std.specs.Option.{option_copied_mut}
-use Rattle.argo_model.specs.Rules.State.{Live}
 use Rattle.paged_live.specs.Ends.{without_notice}
-use Rattle.paged_live.specs.Parts.{Parts, seen}
+use Rattle.paged_live.specs.Parts.{Parts}
 use Rattle.paged_live.proofs.PartsLaws.{found_value, changed_parts}
 use Rattle.paged_live.proofs.NoticeLaws.{notice_seen, no_notice, no_value}
 use Rattle.paged_live.proofs.live.Live.forget_notice.Goals as goal

@@ -1,8 +1,6 @@
-use Rattle.std.proofs.Common.{◌≡◌, ◌∙◌, List, ℕ, Option, ap, sym, subst}
-use Rattle.argo_base.specs.declared.ring_key.RingKey.{RingKey}
-use Rattle.paged_live.specs.declared.home.Home.{Home}
-use Rattle.paged_live.specs.Parts.{Rows, Parts, seen, IsParts}
-use Rattle.paged_live.proofs.FreshLaws.{fresh, fresh_parts, fresh_seen, same_start}
+use Rattle.std.proofs.Common.{◌∙◌, ap, sym, subst}
+use Rattle.paged_live.specs.Parts.{seen, IsParts}
+use Rattle.paged_live.proofs.FreshLaws.{fresh_parts, fresh_seen, same_start}
 use Rattle.paged_live.proofs.live.Live.fresh.Goals as goal
 
 pub invariant_of-result : goal.invariant_of-result

@@ -1,4 +1,4 @@
-use Rattle.std.proofs.Common.{◌≡◌, ◌+◌, ◌*◌, ◌<◌, ◌++◌, length, take, sym, ap, ◌∙◌, arith}
+use Rattle.std.proofs.Common.{◌+◌, ◌*◌, ◌<◌, ◌++◌, length, take, sym, ap, ◌∙◌, arith}
 use Rattle.argo_model.specs.Rules.State.{Live}
 use Rattle.paged_live.specs.Parts.{Parts}
 use Rattle.paged_live.proofs.MemoryLaws.{page_more, all_pages}

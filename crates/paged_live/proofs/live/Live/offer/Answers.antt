@@ -1,12 +1,11 @@
-use Rattle.std.proofs.Common.{◌≡◌, Some, None, option_map, sym, ap, ◌∙◌}
+use Rattle.std.proofs.Common.{option_map, sym, ap, ◌∙◌}
 use Rattle.std.specs.Option.{option_copied_mut}
 use Rattle.argo_base.specs.Match.{match_of}
 use Rattle.argo_model.specs.Rules.State.{Live}
 use Rattle.argo_model.specs.Rules.Effects.{after}
 use Rattle.argo_model.specs.Rules.Deliver.{Offer, offer, offer_to_match, offer_to_live}
-use Rattle.ring_core.specs.Held.{paged}
 use Rattle.paged_live.specs.Parts.{Parts, seen}
-use Rattle.paged_live.proofs.PartsLaws.{Found, found_value, paged_seen, changed_parts, changed_after, unchanged_seen, match_is, match_none, in_any_case, key_in_row}
+use Rattle.paged_live.proofs.PartsLaws.{found_value, paged_seen, changed_parts, changed_after, unchanged_seen, match_is, match_none, in_any_case, key_in_row}
 use Rattle.paged_live.proofs.live.Live.offer.Goals as goal
 
 pub returns-in_default-clause-outcome : goal.returns-in_default-clause-outcome

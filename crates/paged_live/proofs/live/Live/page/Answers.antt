@@ -1,4 +1,4 @@
-use Rattle.std.proofs.Common.{◌≡◌, ◌*◌, take, drop, sym, ap, ◌∙◌}
+use Rattle.std.proofs.Common.{◌*◌, take, drop, sym, ap, ◌∙◌}
 use Rattle.argo_model.specs.Rules.Act.{fetch}
 use Rattle.argo_model.specs.Rules.State.{Live}
 use Rattle.paged_live.specs.Parts.{Parts}

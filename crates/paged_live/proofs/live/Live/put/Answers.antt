@@ -1,16 +1,15 @@
-use Rattle.std.proofs.Common.{◌≡◌, ℕ, List, ◌<◌, ◌∙◌, Some, None, length, sym, ap, subst, arith}
+use Rattle.std.proofs.Common.{ℕ, List, ◌∙◌, sym, ap, subst, arith}
 use Rattle.std.proofs.lemmas.List.{length-map}
 use Rattle.std.specs.Option.{option_copied_mut}
 use Rattle.argo_model.specs.Rules.Act as acts
 use Rattle.argo_model.specs.Rules.Effects.{after}
 use Rattle.argo_model.specs.Rules.State.{Live}
-use Rattle.argo_model.specs.declared.action.Outcome.TheVariants.{Done, Fault}
 use Rattle.guest_pages.specs.Pages.{page_at}
 use Rattle.paged_live.specs.Homes.{home_at}
 use Rattle.paged_live.specs.Parts.{Parts, seen, store_of, IsParts}
 use Rattle.paged_live.proofs.JoinLaws.{alone_at}
 use Rattle.paged_live.proofs.PartsLaws.{found_value, changed_parts, with_ring}
-use Rattle.paged_live.proofs.PutLaws.{none_of, unwritten, home_stands, absent, written_parts, written_seen, put_seen, lent_below, lent_at, stays_absent, fault_absent, done_put, done_written}
+use Rattle.paged_live.proofs.PutLaws.{none_of, unwritten, home_stands, absent, written_parts, written_seen, put_seen, lent_at, stays_absent, fault_absent, done_put, done_written}
 use Rattle.paged_live.proofs.live.Live.put.Goals as goal
 
 pub invariant_of-self : goal.invariant_of-self

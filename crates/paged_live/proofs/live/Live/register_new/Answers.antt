@@ -1,4 +1,4 @@
-use Rattle.std.proofs.Common.{◌≡◌, ℕ, ◌+◌, ◌<◌, ◌++◌, length, take, drop, Err, sym, ap, ◌∙◌, subst, arith}
+use Rattle.std.proofs.Common.{◌≡◌, ℕ, ◌<◌, ◌++◌, length, take, drop, Err, sym, ap, ◌∙◌, subst, arith}
 use Rattle.argo_base.specs.Splice.{splice}
 use Rattle.argo_base.proofs.SlotLaws.{page_count_holds}
 use Rattle.argo_model.specs.Rules.Effects.{Change, after}

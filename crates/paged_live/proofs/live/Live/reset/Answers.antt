@@ -1,4 +1,4 @@
-use Rattle.std.proofs.Common.{◌≡◌, ◌<◌, length, sym, ap, ◌∙◌, arith}
+use Rattle.std.proofs.Common.{◌≡◌, length, sym, ap, ◌∙◌, arith}
 use Rattle.argo_model.specs.Rules.Destroy.{reset_live}
 use Rattle.argo_model.specs.Rules.Register.{without_ring}
 use Rattle.argo_model.specs.Rules.State.{Live}

@@ -1,4 +1,4 @@
-use Rattle.std.proofs.Common.{◌≡◌, sym, ◌∙◌}
+use Rattle.std.proofs.Common.{sym, ◌∙◌}
 use Rattle.paged_live.proofs.EndLaws.{no_ring}
 use Rattle.paged_live.proofs.live.Live.unregister.Goals as goal
 
