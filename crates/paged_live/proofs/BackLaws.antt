@@ -21,12 +21,14 @@ use Rattle.guest_pages.proofs.FlatLaws.{length-row_bytes}
 use Rattle.ring_core.specs.Held.{Held, paged}
 use Rattle.ring_core.specs.Restarts.{ring_on}
 use Rattle.ring_core.proofs.TestLaws.{and_also}
+use Rattle.paged_live.specs.declared.home.Home.{Home}
 use Rattle.paged_live.specs.Homes.{home, home_at, settled, cleared}
 use Rattle.paged_live.specs.Store.{piece}
 use Rattle.paged_live.specs.Parts.{Parts, store_of, IsParts}
 use Rattle.paged_live.proofs.PageLaws.{Differ, At, at_or_not}
 use Rattle.paged_live.proofs.StoreLaws.{own_page, pages_differ}
 use Rattle.paged_live.proofs.PartsLaws.{Found, found_stood}
+use Rattle.paged_live.proofs.EndLaws.{written_back}
 use Rattle.paged_live.proofs.HomeLaws.{AreWhole, length-cleared, cleared_other, length-settled, settled_at, settled_other, length-with_row, with_row_at, with_row_other, given_at, length-without, without_other}
 use Rattle.paged_live.proofs.JoinLaws.{lends_differ, lends_alone}
 use Rattle.paged_live.proofs.FreeLaws.{numbers-row_of, lent_in}
@@ -169,3 +171,15 @@ module _ (x : Parts) (is : IsParts x) (key : RingKey) (a : Held) (f : Found x.ro
 -- a ring has few pages
 pub few_pages : (len : ℕ) → IsTrue (is_legal len) → page_count len ≤ 4097
 few_pages len test = page_count_most len (legal len test).most
+
+-- homes that are cleared, settled, and written back each time
+pub settled_back : (x : Parts) (key : RingKey) (old row : List (ℕ × List ℕ)) (ns : List ℕ) (n : ℕ) (at cleared_to from settled_to : List (Option Home)) → length x.homes ≡ n
+    → row ≡ old → at ≡ x.homes → cleared_to ≡ cleared (numbers_of row) at → from ≡ take n (cleared_to ++ drop (length cleared_to) x.homes) → settled_to ≡ settled key 0 ns from
+    → take n (settled_to ++ drop (length settled_to) (take n (cleared_to ++ drop (length cleared_to) x.homes))) ≡ settled key 0 ns (cleared (numbers_of old) x.homes)
+settled_back x key old row ns n at cleared_to from settled_to long same at_is cleared_is from_is settled_is =
+    let c : cleared_to ≡ cleared (numbers_of old) x.homes = cleared_is ∙ ap (λ r. cleared (numbers_of r) at) same ∙ ap (cleared (numbers_of old)) at_is in
+    let c_long : length cleared_to ≡ n = ap length c ∙ length-cleared (numbers_of old) x.homes ∙ long in
+    let s : settled_to ≡ settled key 0 ns (cleared (numbers_of old) x.homes) =
+    settled_is ∙ ap (settled key 0 ns) (from_is ∙ written_back n cleared_to x.homes c_long ∙ c) in
+    let s_long : length settled_to ≡ n = ap length s ∙ length-settled key 0 ns (cleared (numbers_of old) x.homes) ∙ length-cleared (numbers_of old) x.homes ∙ long in
+    written_back n settled_to (take n (cleared_to ++ drop (length cleared_to) x.homes)) s_long ∙ s

@@ -29,7 +29,8 @@ use Rattle.paged_live.specs.Parts.{Parts, stood, store_of, ring_of, rings_of, se
 use Rattle.paged_live.proofs.StoreLaws.{Alone, Lent, alone_or_lent, not_own}
 use Rattle.paged_live.proofs.MoveLaws.{Apart, free_bytes}
 use Rattle.paged_live.proofs.RowLaws.{at_other}
-use Rattle.paged_live.proofs.PutLaws.{Shown, shown_at, rings_rising, page_is_there, ring_at}
+use Rattle.paged_live.proofs.PutLaws.{Shown, shown_at, rings_rising, ring_at}
+use Rattle.paged_live.proofs.SizeLaws.{page_is_there}
 use Rattle.paged_live.proofs.HomeLaws.{AreWhole, row_piece}
 use Rattle.paged_live.proofs.JoinLaws.{lends_alone, number_at, number_there}
 

@@ -18,3 +18,6 @@ pub mod OwnLaws
 pub mod LoopLaws
 pub mod BackLaws
 pub mod MemoryLaws
+pub mod AloneLaws
+pub mod SizeLaws
+pub mod FetchLaws

@@ -7,7 +7,7 @@ use Rattle.argo_model.specs.declared.action.Outcome.TheVariants.{Bytes, Fault}
 use Rattle.argo_model.specs.Rules.Act.{fetch}
 use Rattle.argo_model.specs.Rules.State.{Live, has_page}
 use Rattle.paged_live.specs.Parts.{Parts, seen, IsParts}
-use Rattle.paged_live.proofs.PutLaws.{page_is_there, length-memory}
+use Rattle.paged_live.proofs.SizeLaws.{page_is_there, length-memory}
 
 -- a page that was fetched
 pub page_read : (live : Live) (page : ℕ) (bytes : List ℕ) → Bytes bytes ≡ fetch live page 0 4096 → bytes ≡ take 4096 (drop (4096 * page) live.bytes)

@@ -35,41 +35,12 @@ use Rattle.paged_live.specs.Homes.{home, home_at}
 use Rattle.paged_live.specs.Store.{page_of, memory}
 use Rattle.paged_live.specs.Parts.{Rows, Parts, stood, store_of, ring_of, rings_of, seen, IsParts, StandsStill}
 use Rattle.paged_live.proofs.PageLaws.{Differ, length-flat, page_in_flat}
-use Rattle.paged_live.proofs.StoreLaws.{same_key_or_not, are_pages, alone_is, lent_is, no_page, pages_differ, at_home, elsewhere, not_own, Put, put_store, put_alone_memory, put_memory}
+use Rattle.paged_live.proofs.SizeLaws.{length-memory, page_is_there, inside_is, outside_is, part_of, memory_part}
+use Rattle.paged_live.proofs.StoreLaws.{same_key_or_not, are_pages, alone_is, lent_is, no_page, pages_differ, at_home, elsewhere, not_own, put_memory}
+use Rattle.paged_live.proofs.AloneLaws.{Put, put_store, put_alone_memory}
 use Rattle.paged_live.proofs.MoveLaws.{Apart}
 use Rattle.paged_live.proofs.RowLaws.{set_here, set_other, map-set_value}
 use Rattle.paged_live.proofs.PartsLaws.{Found, found_stood, ring_seen, paged_seen, with_ring, with_value_is, changed_wrote}
-
--- ---- the memory's pages
-
-pub length-memory : (x : Parts) → IsParts x → length (seen x).bytes ≡ 4096 * length x.private
-length-memory x is = length-flat (page_of (store_of x)) (length x.private) (are_pages (store_of x) is.store)
-
-div_page : (n k : ℕ) → n ≡ 4096 * k → n / 4096 ≡ k
-div_page n k same = omega arith
-
-pub page_is_there : (x : Parts) → IsParts x → (page : ℕ) → has_page (seen x) page ≡ nat_lt page (length x.private)
-page_is_there x is page = ap (nat_lt page) (div_page (length (seen x).bytes) (length x.private) (length-memory x is))
-
-inside_is : (page count : ℕ) → page < count → nat_lt page count ≡ true
-inside_is page count below = grind (arith, nat_tests)
-
-outside_is : (page count : ℕ) → count ≤ page → nat_lt page count ≡ false
-outside_is page count past = grind (arith, nat_tests)
-
-pub part_of : (xs : List ℕ) (base off n : ℕ) → off + n ≤ 4096 → take n (drop off (take 4096 (drop base xs))) ≡ take n (drop (base + off) xs)
-part_of xs base off n fit =
-    let k : off + (4096 - off) ≡ 4096 = omega arith in
-    ap (λ m. take n (drop off (take m (drop base xs)))) (sym k)
-    ∙ ap (take n) (drop-take off (4096 - off) (drop base xs))
-    ∙ take-take n (4096 - off) (drop off (drop base xs)) (omega arith)
-    ∙ ap (take n) (drop-drop off base xs)
-
-pub memory_part : (x : Parts) → IsParts x → (page off n : ℕ) → page < length x.private → off + n ≤ 4096
-    → take n (drop (4096 * page + off) (seen x).bytes) ≡ take n (drop off (page_of (store_of x) page))
-memory_part x is page off n below fit =
-    sym (part_of (seen x).bytes (4096 * page) off n fit)
-    ∙ ap (λ p. take n (drop off p)) (page_in_flat (page_of (store_of x)) (length x.private) page (are_pages (store_of x) is.store) below)
 
 -- ---- which ring a put touches
 
@@ -264,36 +235,6 @@ module _ (x : Parts) (is : IsParts x) (page off place : ℕ) (bytes : List ℕ) 
 pub absent : (x : Parts) → IsParts x → (page : ℕ) → page_at x.private page ≡ None → home_at x.homes page ≡ None → has_page (seen x) page ≡ false
 absent x is page alone lent = page_is_there x is page ∙ outside_is page (length x.private) (⊎_elim (λ inside. absurd (is.store.somewhere page inside alone lent)) (λ past. past) (cases_lt page (length x.private)))
 
--- ---- fetches
-
-pub fetch_there : (live : Live) (page off n : ℕ) → has_page live page ≡ true → acts.fetch live page off n ≡ Bytes (take n (drop (4096 * page + off) live.bytes))
-fetch_there live page off n there = ap (λ t. if t then Bytes (take n (drop (4096 * page + off) live.bytes)) else Fault) there
-
-pub fetch_absent : (live : Live) (page off n : ℕ) → has_page live page ≡ false → acts.fetch live page off n ≡ Fault
-fetch_absent live page off n none = ap (λ t. if t then Bytes (take n (drop (4096 * page + off) live.bytes)) else Fault) none
-
--- out of a page that stands by itself
-pub fetch_alone : (x : Parts) → IsParts x → (page off n : ℕ) (b : List ℕ) → off + n ≤ 4096 → page_at x.private page ≡ Some b
-    → Bytes (take n (drop off b)) ≡ acts.fetch (seen x) page off n
-fetch_alone x is page off n b fit at =
-    let below : page < length x.private = is.store.inside page b at in
-    let there : has_page (seen x) page ≡ true = page_is_there x is page ∙ inside_is page (length x.private) below in
-    ap (λ p. Bytes (take n (drop off p))) (sym (alone_is (store_of x) page b at))
-    ∙ ap Bytes (sym (memory_part x is page off n below fit))
-    ∙ sym (fetch_there (seen x) page off n there)
-
--- out of one that stands in a ring
-pub fetch_lent : (x : Parts) → IsParts x → (page off n place : ℕ) (key : RingKey) (a : Held) (f : Found x.rows key a) → off + n ≤ 4096 → home_at x.homes page ≡ Some (home key place)
-    → Bytes (take n (drop (4096 * place + off) (row_bytes a.row))) ≡ acts.fetch (seen x) page off n
-fetch_lent x is page off n place key a f fit lent =
-    let below : page < length x.private = is.store.there page (home key place) lent in
-    let there : has_page (seen x) page ≡ true = page_is_there x is page ∙ inside_is page (length x.private) below in
-    let none = no_page (store_of x) is.store page (home key place) lent in
-    ap Bytes (sym (part_of (row_bytes a.row) (4096 * place) off n fit))
-    ∙ ap (λ p. Bytes (take n (drop off p))) (sym (lent_is (store_of x) page (home key place) (paged f.serial a) none lent (found_stood x.rows key a f)))
-    ∙ ap Bytes (sym (memory_part x is page off n below fit))
-    ∙ sym (fetch_there (seen x) page off n there)
-
 -- ---- where a ring stands among those of the rules
 
 place_of : {X : Type 0} (es : List (RingKey × X)) (key : RingKey) (x : X) → lookup (is_at (key_cmp key)) es ≡ Some x → (i : ℕ) × (slice_get es i ≡ Some (key, x))
@@ -334,20 +275,6 @@ done_put x is page off bytes h at =
     done_there (seen x) page off bytes (page_is_there x is page ∙ inside_is page (length x.private) (is.store.there page h at))
 
 -- what a read of the pages that stand by themselves found
-pub fetch_some : (x : Parts) → IsParts x → (page off n : ℕ) (bytes : List ℕ) → off + n ≤ 4096 → option_map (λ p. take n (drop off p)) (page_at x.private page) ≡ Some bytes
-    → Bytes bytes ≡ acts.fetch (seen x) page off n
-fetch_some x is page off n bytes fit found = by (page_at x.private page) refl found where
-  by : (o : Option (List ℕ)) → page_at x.private page ≡ o → option_map (λ p. take n (drop off p)) o ≡ Some bytes → Bytes bytes ≡ acts.fetch (seen x) page off n
-  by None at found = cc
-  by (Some b) at found = ap Bytes (sym (same_Some (take n (drop off b)) bytes found)) ∙ fetch_alone x is page off n b fit at
-
-pub fetch_none : (x : Parts) (page off n : ℕ) → option_map (λ p. take n (drop off p)) (page_at x.private page) ≡ None → page_at x.private page ≡ None
-fetch_none x page off n none = by (page_at x.private page) none where
-  by : (o : Option (List ℕ)) → option_map (λ (p : List ℕ). take n (drop off p)) o ≡ None → o ≡ None
-  by None h = refl
-  by (Some b) h = absurd (none-some (take n (drop off b)) (sym h))
-
--- a row that is not found
 pub row_none : (rows : Rows) (key : RingKey) → option_map row_of (at_key rows key) ≡ None → value_at rows key ≡ None
 row_none rows key none = by (held_at rows key) none where
   by : (o : Option (Row Held)) → option_map row_of (option_map (λ (h : Row Held). (key, h)) o) ≡ None → option_map (λ (h : Row Held). h.value) o ≡ None

@@ -1,5 +1,6 @@
 -- Laws of rings that are registered, and registered anew.
 use Rattle.std.proofs.Common.{◌≡◌, ◌≢◌, ℕ, ◌+◌, ◌*◌, IsTrue, List, length, Option, Some, None, option_map, ⊎_elim, refl, sym, ap, ◌∙◌, subst, arith}
+use Rattle.std.proofs.Common.{true, false}
 use Rattle.std.specs.List.Sorted.{IsStrictlySortedBy}
 use Rattle.std.specs.Map.{set_value}
 use Rattle.std.specs.BTreeMap.{is_at, insert_entry}
@@ -9,7 +10,10 @@ use Rattle.std.proofs.lemmas.Option.{none-some}
 use Rattle.argo_base.specs.declared.ring_key.RingKey.{RingKey}
 use Rattle.argo_base.specs.Match.{key_cmp, key_in}
 use Rattle.argo_model.specs.Rules.State.{Live}
-use Rattle.argo_model.specs.Rules.Register.{new_ring, add_paged, own_ring, resized, are_free_for}
+use Rattle.argo_model.specs.Rules.Register.{new_ring, add_paged, own_ring, register_anew, stands_so, resized, are_free_for}
+use Rattle.argo_base.specs.Numbers.{all_differ}
+use Rattle.argo_model.specs.declared.action.Outcome.TheVariants.{Done}
+use Rattle.argo_model.specs.Rules.Effects.{Change, answered}
 use Rattle.argo_model.specs.Rules.RingBytes.{PagedRing, paged as paged_in, set_paged, ring_bytes, laid}
 use Rattle.argo_model.specs.Rules.Starts.{started}
 use Rattle.guest_pages.specs.Pages.{can_lend, row_of, without}
@@ -23,9 +27,12 @@ use Rattle.ring_table.proofs.EntryLaws.{same_entries, sorted-insert, sorted-remo
 use Rattle.paged_live.specs.declared.home.Home.{Home}
 use Rattle.paged_live.specs.Homes.{cleared, settled}
 use Rattle.paged_live.specs.Parts.{Rows, Parts, ring_of, rings_of, seen, IsParts}
+use Rattle.paged_live.specs.Registers.{anew_if_free}
+use Rattle.paged_live.proofs.BackLaws.{own_free}
+use Rattle.paged_live.proofs.OwnLaws.{stands_pages, anew_is}
 use Rattle.paged_live.proofs.StoreLaws.{same_key_or_not}
 use Rattle.paged_live.proofs.RowLaws.{set_here, set_other, remove_here, remove_other, insert_here, insert_other, map-set_value}
-use Rattle.paged_live.proofs.PartsLaws.{Found, with_value_is}
+use Rattle.paged_live.proofs.PartsLaws.{Found, with_value_is, ring_seen, with_ring}
 use Rattle.paged_live.proofs.HomeLaws.{AreWhole}
 use Rattle.paged_live.proofs.EndLaws.{ended, ended_parts, ended_seen}
 use Rattle.paged_live.proofs.JoinLaws.{Joins, joined, joined_parts, joined_bytes, joined_rings}
@@ -173,3 +180,27 @@ module _ (x : Parts) (is : IsParts x) (key : RingKey) (a v : Held) (f : Found x.
         ap (λ bs. record (seen x) { bytes = bs; rings = (seen moved).rings }) bytes
         ∙ ap (λ rs. record (seen x) { bytes = laid p.ring.pages p.own (seen x).bytes; rings = rs }) rings
         ∙ ap (set_paged (seen x) key) (new f.serial ∙ ap (λ o. started (record { ring = resized (paged f.serial a).ring len ns; own = o })) own)
+
+-- ---- what is left where a ring stands
+
+-- it stays as it is
+pub stays_is : (x : Parts) → IsParts x → (key : RingKey) (a : Held) (f : Found x.rows key a) → AreWhole a.row → IsTrue (all_differ (numbers_of a.row)) → (len : ℕ) (ns : List ℕ)
+    → stands_so (paged f.serial a).ring len ns ≡ true → anew_if_free (seen x) key len ns ≡ answered Done
+stays_is x is key a f whole distinct len ns so =
+    let r = (paged f.serial a).ring in
+    let own : numbers_of a.row ≡ ns = stands_pages r len ns so in
+    let free = anew_free x is key a a f whole ns ∙ ap (can_lend (given_back x.private a)) (sym own) ∙ own_free x is key a f whole distinct in
+    anew_is (seen x) key len ns r true free (ring_seen x.rows key a f) so
+
+-- or starts on other pages
+pub moves_to : (x : Parts) → IsParts x → (key : RingKey) (a : Held) (f : Found x.rows key a) → AreWhole a.row → (len : ℕ) (ns : List ℕ)
+    → IsTrue (can_lend (given_back x.private a) ns) → stands_so (paged f.serial a).ring len ns ≡ false
+    → anew_if_free (seen x) key len ns ≡ register_anew (seen x) key (paged f.serial a).ring len ns
+moves_to x is key a f whole len ns can so =
+    anew_is (seen x) key len ns (paged f.serial a).ring false (anew_free x is key a a f whole ns ∙ can) (ring_seen x.rows key a f) so
+
+-- or is refused them, and all is as it was
+pub kept_is : (x : Parts) (key : RingKey) (b : Held) {private : List (Option (List ℕ))} {homes : List (Option Home)} → private ≡ x.private → homes ≡ x.homes
+    → record { private = private; homes = homes; flag = x.flag; next_serial = x.next_serial; rows = edits.with_value x.rows key b } ≡ with_ring x key b
+kept_is x key b {private} {homes} p h =
+    ap (λ ps. record x { private = ps; homes = homes; rows = edits.with_value x.rows key b }) p ∙ ap (λ hs. record x { homes = hs; rows = edits.with_value x.rows key b }) h

@@ -78,7 +78,8 @@ impl Live {
         requires counted { length pages.now ≡ page_count len }
         requires young { self.old.next_serial < 2 ^ 63 }
         requires none { rules.own_ring self.old key.now ≡ None }
-        ensures outcome { IfOk result (λ o. o ≡ (new_if_free self.old key.now len pages.now).outcome) }
+        ensures outcome { IfOk result
+            (λ o. o ≡ (new_if_free self.old key.now len pages.now).outcome) }
         ensures left { OnOk result
             (self.new ≡ after self.old (new_if_free self.old key.now len pages.now)) }
         ensures err { OnErr result (self.new ≡ self.old) }

@@ -21,7 +21,8 @@ impl Live {
         ensures signals { IfOk result (λ c. c.signals.items
             ≡ (sweep.sweep_found self.old (sweep.next_ring after self.old.rings)).signals) }
         ensures left { OnOk result (self.new
-            ≡ effects.after self.old (sweep.sweep_found self.old (sweep.next_ring after self.old.rings))) }
+            ≡ effects.after self.old
+            (sweep.sweep_found self.old (sweep.next_ring after self.old.rings))) }
         ensures err { OnErr result (self.new ≡ self.old) }
     {
         let Some(row) = self.rings.after(after) else {
@@ -43,7 +44,8 @@ impl Live {
 fn sweep_ring(alloc: Global, ring: &mut Ring) -> Result<Vec<DomId>, NoMemory>
     ensures signals { IfOk result
         (λ doms. IsSaid ring.old doms.items (λ p. (sweep.sweep_ring p).signals)) }
-    ensures left { OnOk result (Becomes ring.old ring.new (λ p. effects.after p (sweep.sweep_ring p))) }
+    ensures left { OnOk result
+        (Becomes ring.old ring.new (λ p. effects.after p (sweep.sweep_ring p))) }
     ensures err { OnErr result (ring.new ≡ ring.old) }
     ensures still { StandsStill ring.old ring.new }
 {

@@ -3,7 +3,7 @@ ghost use Rattle.std.specs.Prelude.{◌<◌, ◌^◌};
 
 use crate::{Live, Offer, Registration};
 use argo_base::slots::{is_legal, page_count};
-use argo_base::{Bytes, DomId, Errno, LONGEST_BODY, PageList, RingKey};
+use argo_base::{Bytes, DomId, LONGEST_BODY, PageList, RingKey};
 use argo_model::{Load, Outcome};
 use std::alloc::Global;
 use std::process::Abort;

@@ -7,7 +7,8 @@ use Rattle.argo_model.specs.declared.action.Outcome.TheVariants.{Bytes}
 use Rattle.paged_live.specs.Homes.{home_at}
 use Rattle.paged_live.specs.Parts.{Parts, seen}
 use Rattle.paged_live.proofs.PartsLaws.{found_row}
-use Rattle.paged_live.proofs.PutLaws.{absent, fetch_some, fetch_none, fetch_absent, fetch_lent, home_stands, lent_at, row_none}
+use Rattle.paged_live.proofs.PutLaws.{absent, home_stands, lent_at, row_none}
+use Rattle.paged_live.proofs.FetchLaws.{fetch_some, fetch_none, fetch_absent, fetch_lent}
 use Rattle.paged_live.proofs.live.Live.fetch.Goals as goal
 
 pub returns-in-Some : goal.returns-in-Some
