@@ -75,6 +75,8 @@ module _ (x : Parts) (is : IsParts x) (key : RingKey) (a : Held) (f : Found x.ro
           rising = sorted-remove key_total (is_at (key_cmp key)) x.rows is.named.rising;
           key = λ q h at. is.named.key q h (left q h at);
           young = λ q h at. is.named.young q h (left q h at);
+          first = is.named.first;
+          some = λ q h at. is.named.some q h (left q h at);
           differ = λ k q g h at_k at_q same. is.named.differ k q g h (left k g at_k) (left q h at_q) same;
         };
       }

@@ -63,6 +63,8 @@ fresh_parts count =
         rising = tt;
         key = λ k h is. absurd (none-some h is);
         young = λ k h is. absurd (none-some h is);
+        first = omega arith;
+        some = λ k h is. absurd (none-some h is);
         differ = λ k q g h is. absurd (none-some g is);
       };
     }

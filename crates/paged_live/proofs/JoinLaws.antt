@@ -98,6 +98,7 @@ pub record Joins (x : Parts) (key : RingKey) (serial next : ℕ) (v : Held) (ns 
   pub named : key_in v.id ≡ key
   pub pages : numbers_of v.row ≡ ns
   pub sized : length (row_bytes v.row) ≡ 4096 * length v.row
+  pub some : 0 < serial
   pub young : serial < next
   pub later : x.next_serial ≤ next
   pub own : (q : RingKey) (h : Row Held) → held_at x.rows q ≡ Some h → h.serial ≢ serial
@@ -170,6 +171,11 @@ module _ (x : Parts) (is : IsParts x) (key : RingKey) (serial next : ℕ) (v : H
           young = λ k h at. ⊎_elim
               (λ o. subst (λ n. n < next) (sym (serial_of h o.1)) j.young)
               (λ o. let low = is.named.young k h o.1 in let later = j.later in omega arith)
+              (which k h at);
+          first = let y = j.young in omega arith;
+          some = λ k h at. ⊎_elim
+              (λ o. subst (λ n. 0 < n) (sym (serial_of h o.1)) j.some)
+              (λ o. is.named.some k h o.1)
               (which k h at);
           differ = λ k p g h at_k at_p same. ⊎_elim
               (λ o. ⊎_elim

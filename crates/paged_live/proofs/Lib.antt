@@ -14,6 +14,7 @@ pub mod FreeLaws
 pub mod RegisterLaws
 pub mod NoticeLaws
 pub mod FinalLaws
+pub mod ForgetLaws
 pub mod OwnLaws
 pub mod LoopLaws
 pub mod BackLaws

@@ -57,7 +57,7 @@ pub with_value_is : (rows : Rows) (key : RingKey) (a b : Held) (f : Found rows k
 with_value_is rows key a b f =
     ap (λ o. set_value (is_at (key_cmp key)) rows (held (unwrap_or (option_map (λ (h : Row Held). h.serial) o) 0) b)) f.is
 
-value_here : (rows : Rows) (key : RingKey) (a b : Held) (f : Found rows key a) → held_at (with_value rows key b) key ≡ Some (held f.serial b)
+pub value_here : (rows : Rows) (key : RingKey) (a b : Held) (f : Found rows key a) → held_at (with_value rows key b) key ≡ Some (held f.serial b)
 value_here rows key a b f =
     ap (λ (rs : Rows). held_at rs key) (with_value_is rows key a b f) ∙ set_here rows key (held f.serial a) (held f.serial b) f.is
 
@@ -105,6 +105,8 @@ changed_parts x is key a b f still =
         rising = subst (IsStrictlySortedBy key_cmp) (sym (ap keys_of (with_value_is x.rows key a b f) ∙ keys-set_value (is_at (key_cmp key)) x.rows (held f.serial b))) is.named.rising;
         key = λ q h at. (entry_was x key a b f q h at still is).0;
         young = λ q h at. let old = (entry_was x key a b f q h at still is).1 h.serial refl in is.named.young q (held h.serial old.0) old.1;
+        first = is.named.first;
+        some = λ q h at. let old = (entry_was x key a b f q h at still is).1 h.serial refl in is.named.some q (held h.serial old.0) old.1;
         differ = λ k q g h at_k at_q same.
             let old_k = (entry_was x key a b f k g at_k still is).1 g.serial refl in
             let old_q = (entry_was x key a b f q h at_q still is).1 h.serial refl in

@@ -53,6 +53,7 @@ module _ (x : Parts) (is : IsParts x) (key : RingKey) (len : ℕ) (v : Held) (ns
         named = named;
         pages = ap (λ (p : PagedRing). p.ring.pages) (new 0) ∙ numbers-row_of x.private ns;
         sized = sized;
+        some = is.named.first;
         young = omega arith;
         later = omega arith;
         own = λ q h at same. let low = is.named.young q h at in omega arith;
@@ -155,6 +156,7 @@ module _ (x : Parts) (is : IsParts x) (key : RingKey) (a v : Held) (f : Found x.
           named = ap key_in id ∙ is.named.key key (held f.serial a) f.is;
           pages = ap (λ (p : PagedRing). p.ring.pages) (new 0);
           sized = sized;
+          some = is.named.some key (held f.serial a) f.is;
           young = is.named.young key (held f.serial a) f.is;
           later = omega arith;
           own = λ q h at same.

@@ -5,3 +5,4 @@ pub mod Ends
 pub mod Registers
 pub mod Own
 pub mod Finals
+pub mod Forgets

@@ -49,11 +49,13 @@ rings_of rows = map (λ e. (e.0, ring_of e.1)) rows
 abbrev pub seen : Parts → Live
 seen x = record { bytes = memory (store_of x); flag = x.flag; next_serial = x.next_serial; rings = rings_of x.rows }
 
--- the keys rise, a ring stands under its own key, and its serial is its own, and below the next
+-- the keys rise, a ring stands under its own key, and its serial is its own, above 0, and below the next
 pub record AreNamed (rows : Rows) (next : ℕ) : Type 0 where
   pub rising : IsStrictlySortedBy key_cmp (keys_of rows)
   pub key : (k : RingKey) (h : Row Held) → held_at rows k ≡ Some h → key_in h.value.id ≡ k
   pub young : (k : RingKey) (h : Row Held) → held_at rows k ≡ Some h → h.serial < next
+  pub first : 0 < next
+  pub some : (k : RingKey) (h : Row Held) → held_at rows k ≡ Some h → 0 < h.serial
   pub differ : (k q : RingKey) (g h : Row Held) → held_at rows k ≡ Some g → held_at rows q ≡ Some h → g.serial ≡ h.serial → k ≡ q
 
 pub record IsParts (x : Parts) : Type 0 where

@@ -1,8 +1,10 @@
 //! Rings that end, and their pages, which come back.
-ghost use Rattle.std.specs.Prelude.{◌≡◌, is_some, slice_get, option_map};
+ghost use Rattle.std.specs.Prelude.{◌≡◌, Some, slice_get, option_map};
+ghost use Rattle.argo_base.specs.Notices.{withdrawn};
 ghost use Rattle.argo_model.specs.Rules.Destroy.{live_without, reset_live, ring_without};
 ghost use Rattle.argo_model.specs.Rules.Effects as effects;
-ghost use Rattle.argo_model.specs.Rules.Register.{has_ring, without_ring};
+ghost use Rattle.argo_model.specs.Rules.Register.{has_ring, own_ring, without_ring};
+ghost use Rattle.argo_model.specs.Rules.State.{Ring as TheRing};
 ghost use Rattle.paged_live.specs.Ends as ends;
 ghost use Rattle.paged_live.specs.Parts.{StandsStill};
 ghost use Rattle.ring_core.specs.Held.{Becomes};
@@ -69,7 +71,9 @@ impl Live {
 
     /// Ends the notice of a domain on the ring under the key, where there is one.
     pub fn forget_notice(&mut self, key: RingKey, dom: DomId)
-        ensures { self.new ≡ ends.without_notice dom key self.old }
+        ensures left { self.new ≡ ends.without_notice dom key self.old }
+        ensures gone { (r : TheRing) → own_ring self.new key ≡ Some r
+            → withdrawn r.notices dom ≡ r.notices }
     {
         let Some(ring) = self.rings.find_exact_mut(key) else {
             return;
@@ -91,8 +95,10 @@ impl Live {
 // Ends the notice of a domain.
 fn forget(ring: &mut Ring, dom: DomId)
     ensures left { Becomes ring.old ring.new (λ p. ends.forgotten dom p) }
+    ensures gone { withdrawn ring.new.notices dom ≡ ring.new.notices }
     ensures still { StandsStill ring.old ring.new }
 {
+    ring.notices().as_slice();
     ring.forget(dom);
     ring.row().count();
 }

@@ -8,6 +8,7 @@
 mod change;
 mod ends;
 mod finals;
+mod forgets;
 mod home;
 mod live;
 mod memory;
