@@ -1,18 +1,13 @@
 -- Laws of a page that stands by itself and is written.
-use Rattle.std.proofs.Common.{◌≡◌, ◌≢◌, ℕ, ◌+◌, ◌*◌, ◌<◌, ◌≤◌, List, length, take, drop, slice_index, Option, Some, None, option_map, unwrap_or, ◌⊎◌, inl, inr, ⊎_elim, refl, sym, ap, ◌∙◌, subst, arith, length-drop}
-use Rattle.std.proofs.lemmas.Bool.{cases_eq, cases_order}
-use Rattle.std.proofs.lemmas.List.{length-take-le}
+use Rattle.std.proofs.Common.{◌≡◌, ◌≢◌, ℕ, ◌+◌, ◌*◌, ◌<◌, ◌≤◌, List, length, slice_index, Some, None, ⊎_elim, sym, ap, ◌∙◌, subst, arith}
+use Rattle.std.proofs.lemmas.Bool.{cases_eq}
 use Rattle.std.proofs.lemmas.Option.{none-some, same_Some}
 use Rattle.argo_base.specs.declared.ring_key.RingKey.{RingKey}
 use Rattle.argo_base.specs.Splice.{splice}
-use Rattle.argo_base.proofs.SpliceLaws.{length-splice, part-splice, take-splice_before, drop-splice_after}
-use Rattle.paged_live.specs.declared.home.Home.{Home}
-use Rattle.argo_model.specs.Rules.RingBytes.{PagedRing, ring_bytes, laid}
-use Rattle.guest_pages.specs.PageBytes.{zero_page}
-use Rattle.ring_core.specs.Flat.{flat, ArePages, with_page}
-use Rattle.paged_live.specs.Homes.{home}
-use Rattle.paged_live.specs.Store.{Store, piece, lent_page, page_of, memory, Lies, IsStore}
-use Rattle.paged_live.proofs.PageLaws.{Differ, flat_same, flat_written, with_page_same, with_page_other, own_in_flat, laid_flat, with_own, with_own_other, with_own_at}
+use Rattle.argo_base.proofs.SpliceLaws.{length-splice}
+use Rattle.ring_core.specs.Flat.{flat, with_page}
+use Rattle.paged_live.specs.Store.{Store, page_of, memory, IsStore}
+use Rattle.paged_live.proofs.PageLaws.{flat_same, flat_written, with_page_same, with_page_other}
 use Rattle.paged_live.proofs.StoreLaws.{Alone, Lent, alone_or_lent, alone_is, lent_is, are_pages}
 
 pub record Put (s t : Store) (n off : ℕ) (bytes b : List ℕ) : Type 0 where

@@ -1,5 +1,5 @@
 -- Laws of what another domain had with the rings of a domain, which ends ring after ring.
-use Rattle.std.proofs.Common.{◌≡◌, ◌≢◌, ℕ, zero, suc, ◌+◌, ◌<◌, ◌≤◌, Bool, true, false, cond, ◌==◌, List, [], ◌∷◌, map, filter, length, slice_get, Option, Some, None, option_map, ◌⊎◌, inl, inr, ⊎_elim, refl, sym, ap, ◌∙◌, subst, arith}
+use Rattle.std.proofs.Common.{◌≡◌, ℕ, zero, suc, Bool, true, false, cond, ◌==◌, List, [], ◌∷◌, map, filter, slice_get, Option, Some, None, option_map, inl, inr, ⊎_elim, refl, sym, ap, ◌∙◌, subst, arith}
 use Rattle.std.specs.Prelude.{not}
 use Rattle.std.specs.List.Sorted.{IsStrictlySortedBy, IsStrictlyIncreasing}
 use Rattle.std.specs.Map.{lookup, set_value, remove_entry, keys_of}
@@ -21,16 +21,16 @@ use Rattle.argo_model.specs.Rules.Register.{own_ring, without_ring}
 use Rattle.argo_model.specs.Rules.State.{Ring, Live}
 use Rattle.ring_core.specs.Held.{Held, paged}
 use Rattle.ring_table.specs.declared.row.Row.{Row as TableRow}
-use Rattle.ring_table.specs.Rows.{Held as Row, held_of, held_at}
+use Rattle.ring_table.specs.Rows.{held_of}
 use Rattle.ring_table.specs.Edits.{with_value}
 use Rattle.ring_table.specs.Serials.{NoneAbove, IsNext}
 use Rattle.ring_table.proofs.BucketLaws.{key_total, key_is}
 use Rattle.ring_table.proofs.EntryLaws.{remove-absent}
-use Rattle.paged_live.specs.Ends.{set_ring, without_notice, without_notice_at}
+use Rattle.paged_live.specs.Ends.{without_notice, without_notice_at}
 use Rattle.paged_live.specs.Forgets.{IsForgotten, Forgot, IsAbove, NoneIsAbove, AllForgotten}
-use Rattle.paged_live.specs.Parts.{Rows, Parts, ring_of, rings_of, seen, IsParts}
+use Rattle.paged_live.specs.Parts.{Parts, ring_of, seen, IsParts}
 use Rattle.paged_live.proofs.PartsLaws.{Found, with_ring, value_here}
-use Rattle.paged_live.proofs.PutLaws.{Shown, shown_at, rings_rising}
+use Rattle.paged_live.proofs.PutLaws.{shown_at, rings_rising}
 use Rattle.paged_live.proofs.RowLaws.{set_here, set_other, remove_here, remove_other}
 use Rattle.paged_live.proofs.StoreLaws.{same_key_or_not}
 

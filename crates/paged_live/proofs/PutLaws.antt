@@ -1,12 +1,11 @@
 -- Laws of reads of a domain's pages, and of puts into them.
-use Rattle.std.proofs.Common.{◌≡◌, ◌≢◌, ℕ, zero, suc, ◌+◌, ◌-◌, ◌*◌, ◌/◌, ◌<◌, ◌≤◌, Bool, true, false, ◌==◌, cond, nat_lt, if◌then◌else◌, List, [], ◌∷◌, length, take, drop, slice_index, slice_get, map, position, Option, Some, None, option_map, unwrap_or, ⊎_elim, refl, sym, ap, ◌∙◌, subst, arith}
+use Rattle.std.proofs.Common.{◌≡◌, ◌≢◌, ℕ, zero, suc, ◌+◌, ◌*◌, ◌<◌, ◌≤◌, Bool, true, false, ◌==◌, cond, nat_lt, if◌then◌else◌, List, [], ◌∷◌, length, slice_index, slice_get, map, position, Option, Some, None, option_map, unwrap_or, ⊎_elim, refl, sym, ap, ◌∙◌, subst, arith}
 use Rattle.std.specs.Prelude.{not, slice_set, is_some}
 use Rattle.std.specs.List.{prefix_len}
 use Rattle.std.proofs.lemmas.Bool.{cases_lt}
 use Rattle.std.proofs.lemmas.Bool.Decides.{nat_tests}
 use Rattle.std.proofs.lemmas.List.{length-set, get_or-set_same, get_or-set_other, set-get_or}
 use Rattle.std.proofs.lemmas.List.Sums.{prefix_len_is}
-use Rattle.std.proofs.lemmas.List.{drop-drop, drop-take, take-take}
 use Rattle.std.proofs.lemmas.Option.{same_Some, none-some}
 use Rattle.std.proofs.lemmas.Map.Made.{lookup-map_values, keys_of-map_values}
 use Rattle.std.proofs.lemmas.Map.{keys-set_value}
@@ -21,9 +20,9 @@ use Rattle.argo_model.specs.Rules.Puts.{after_put, put_into, ring_after_put, cle
 use Rattle.argo_model.specs.Rules.RingBytes.{PagedRing, paged as paged_in}
 use Rattle.argo_model.specs.Rules.Act as acts
 use Rattle.argo_model.specs.Rules.Effects.{after, leaving, answered}
-use Rattle.argo_model.specs.declared.action.Outcome.TheVariants.{Done, Bytes, Fault}
+use Rattle.argo_model.specs.declared.action.Outcome.TheVariants.{Done, Fault}
 use Rattle.guest_pages.specs.Pages.{page_at, with_written}
-use Rattle.guest_pages.specs.Rows.{numbers_of, row_bytes}
+use Rattle.guest_pages.specs.Rows.{numbers_of}
 use Rattle.ring_core.specs.Held.{Held, paged, Becomes}
 use Rattle.ring_core.specs.Puts.{put_in}
 use Rattle.ring_core.proofs.TestLaws.{same_number, other_number}
@@ -32,11 +31,11 @@ use Rattle.ring_table.proofs.BucketLaws.{key_total, key_exact, key_is}
 use Rattle.ring_table.proofs.EntryLaws.{same_entries}
 use Rattle.paged_live.specs.declared.home.Home.{Home}
 use Rattle.paged_live.specs.Homes.{home, home_at}
-use Rattle.paged_live.specs.Store.{page_of, memory}
+use Rattle.paged_live.specs.Store.{memory}
 use Rattle.paged_live.specs.Parts.{Rows, Parts, stood, store_of, ring_of, rings_of, seen, IsParts, StandsStill}
-use Rattle.paged_live.proofs.PageLaws.{Differ, length-flat, page_in_flat}
-use Rattle.paged_live.proofs.SizeLaws.{length-memory, page_is_there, inside_is, outside_is, part_of, memory_part}
-use Rattle.paged_live.proofs.StoreLaws.{same_key_or_not, are_pages, alone_is, lent_is, no_page, pages_differ, at_home, elsewhere, not_own, put_memory}
+use Rattle.paged_live.proofs.PageLaws.{Differ}
+use Rattle.paged_live.proofs.SizeLaws.{page_is_there, inside_is, outside_is}
+use Rattle.paged_live.proofs.StoreLaws.{same_key_or_not, pages_differ, at_home, elsewhere, not_own, put_memory}
 use Rattle.paged_live.proofs.AloneLaws.{Put, put_store, put_alone_memory}
 use Rattle.paged_live.proofs.MoveLaws.{Apart}
 use Rattle.paged_live.proofs.RowLaws.{set_here, set_other, map-set_value}

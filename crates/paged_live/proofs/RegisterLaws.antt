@@ -13,7 +13,7 @@ use Rattle.argo_model.specs.Rules.State.{Live}
 use Rattle.argo_model.specs.Rules.Register.{new_ring, add_paged, own_ring, register_anew, stands_so, resized, are_free_for}
 use Rattle.argo_base.specs.Numbers.{all_differ}
 use Rattle.argo_model.specs.declared.action.Outcome.TheVariants.{Done}
-use Rattle.argo_model.specs.Rules.Effects.{Change, answered}
+use Rattle.argo_model.specs.Rules.Effects.{answered}
 use Rattle.argo_model.specs.Rules.RingBytes.{PagedRing, paged as paged_in, set_paged, ring_bytes, laid}
 use Rattle.argo_model.specs.Rules.Starts.{started}
 use Rattle.guest_pages.specs.Pages.{can_lend, row_of, without}

@@ -5,7 +5,7 @@ use Rattle.std.proofs.lemmas.List.{length-take-le}
 use Rattle.std.proofs.lemmas.Option.{none-some, same_Some}
 use Rattle.argo_base.specs.declared.ring_key.RingKey.{RingKey}
 use Rattle.argo_base.specs.Splice.{splice}
-use Rattle.argo_base.proofs.SpliceLaws.{length-splice, part-splice, take-splice_before, drop-splice_after}
+use Rattle.argo_base.proofs.SpliceLaws.{part-splice, take-splice_before, drop-splice_after}
 use Rattle.paged_live.specs.declared.home.Home.{Home}
 use Rattle.argo_model.specs.Rules.RingBytes.{PagedRing, ring_bytes, laid}
 use Rattle.guest_pages.specs.PageBytes.{zero_page}

@@ -1,4 +1,4 @@
-use Rattle.std.proofs.Common.{◌≡◌, ◌-◌, ◌<◌, refl, ◌∙◌, subst, arith}
+use Rattle.std.proofs.Common.{refl, ◌∙◌, subst, arith}
 use Rattle.argo_model.specs.Rules.State.{Live}
 use Rattle.paged_live.specs.Forgets.{AllForgotten}
 use Rattle.paged_live.specs.Parts.{Parts}
