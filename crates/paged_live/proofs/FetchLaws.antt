@@ -1,0 +1,58 @@
+-- Laws of what a fetch finds.
+use Rattle.std.proofs.Common.{◌≡◌, ℕ, ◌+◌, ◌*◌, ◌<◌, ◌≤◌, true, false, if◌then◌else◌, List, length, take, drop, Option, Some, None, option_map, refl, sym, ap, ◌∙◌}
+use Rattle.std.proofs.lemmas.Option.{same_Some, none-some}
+use Rattle.argo_base.specs.declared.ring_key.RingKey.{RingKey}
+use Rattle.argo_model.specs.Rules.State.{Live, has_page}
+use Rattle.argo_model.specs.Rules.Act as acts
+use Rattle.argo_model.specs.declared.action.Outcome.TheVariants.{Bytes, Fault}
+use Rattle.guest_pages.specs.Pages.{page_at}
+use Rattle.guest_pages.specs.Rows.{row_bytes}
+use Rattle.ring_core.specs.Held.{Held, paged}
+use Rattle.paged_live.specs.Homes.{home, home_at}
+use Rattle.paged_live.specs.Parts.{Parts, store_of, seen, IsParts}
+use Rattle.paged_live.proofs.StoreLaws.{alone_is, lent_is, no_page}
+use Rattle.paged_live.proofs.PartsLaws.{Found, found_stood}
+use Rattle.paged_live.proofs.SizeLaws.{page_is_there, inside_is, part_of, memory_part}
+
+pub fetch_there : (live : Live) (page off n : ℕ) → has_page live page ≡ true → acts.fetch live page off n ≡ Bytes (take n (drop (4096 * page + off) live.bytes))
+fetch_there live page off n there = ap (λ t. if t then Bytes (take n (drop (4096 * page + off) live.bytes)) else Fault) there
+
+pub fetch_absent : (live : Live) (page off n : ℕ) → has_page live page ≡ false → acts.fetch live page off n ≡ Fault
+fetch_absent live page off n none = ap (λ t. if t then Bytes (take n (drop (4096 * page + off) live.bytes)) else Fault) none
+
+-- out of a page that stands by itself
+pub fetch_alone : (x : Parts) → IsParts x → (page off n : ℕ) (b : List ℕ) → off + n ≤ 4096 → page_at x.private page ≡ Some b
+    → Bytes (take n (drop off b)) ≡ acts.fetch (seen x) page off n
+fetch_alone x is page off n b fit at =
+    let below : page < length x.private = is.store.inside page b at in
+    let there : has_page (seen x) page ≡ true = page_is_there x is page ∙ inside_is page (length x.private) below in
+    ap (λ p. Bytes (take n (drop off p))) (sym (alone_is (store_of x) page b at))
+    ∙ ap Bytes (sym (memory_part x is page off n below fit))
+    ∙ sym (fetch_there (seen x) page off n there)
+
+-- out of one that stands in a ring
+pub fetch_lent : (x : Parts) → IsParts x → (page off n place : ℕ) (key : RingKey) (a : Held) (f : Found x.rows key a) → off + n ≤ 4096 → home_at x.homes page ≡ Some (home key place)
+    → Bytes (take n (drop (4096 * place + off) (row_bytes a.row))) ≡ acts.fetch (seen x) page off n
+fetch_lent x is page off n place key a f fit lent =
+    let below : page < length x.private = is.store.there page (home key place) lent in
+    let there : has_page (seen x) page ≡ true = page_is_there x is page ∙ inside_is page (length x.private) below in
+    let none = no_page (store_of x) is.store page (home key place) lent in
+    ap Bytes (sym (part_of (row_bytes a.row) (4096 * place) off n fit))
+    ∙ ap (λ p. Bytes (take n (drop off p))) (sym (lent_is (store_of x) page (home key place) (paged f.serial a) none lent (found_stood x.rows key a f)))
+    ∙ ap Bytes (sym (memory_part x is page off n below fit))
+    ∙ sym (fetch_there (seen x) page off n there)
+
+pub fetch_some : (x : Parts) → IsParts x → (page off n : ℕ) (bytes : List ℕ) → off + n ≤ 4096 → option_map (λ p. take n (drop off p)) (page_at x.private page) ≡ Some bytes
+    → Bytes bytes ≡ acts.fetch (seen x) page off n
+fetch_some x is page off n bytes fit found = by (page_at x.private page) refl found where
+  by : (o : Option (List ℕ)) → page_at x.private page ≡ o → option_map (λ p. take n (drop off p)) o ≡ Some bytes → Bytes bytes ≡ acts.fetch (seen x) page off n
+  by None at found = cc
+  by (Some b) at found = ap Bytes (sym (same_Some (take n (drop off b)) bytes found)) ∙ fetch_alone x is page off n b fit at
+
+pub fetch_none : (x : Parts) (page off n : ℕ) → option_map (λ p. take n (drop off p)) (page_at x.private page) ≡ None → page_at x.private page ≡ None
+fetch_none x page off n none = by (page_at x.private page) none where
+  by : (o : Option (List ℕ)) → option_map (λ (p : List ℕ). take n (drop off p)) o ≡ None → o ≡ None
+  by None h = refl
+  by (Some b) h = absurd (none-some (take n (drop off b)) (sym h))
+
+-- a row that is not found

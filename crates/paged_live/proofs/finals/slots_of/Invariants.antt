@@ -1,0 +1,6 @@
+use Rattle.std.proofs.Common.{◌≡◌, take}
+use Rattle.guest_pages.specs.Rows.{row_bytes}
+use Rattle.paged_live.proofs.finals.slots_of.Given as goal
+
+abbrev pub invariant-loop-place : goal.invariant-loop-place
+invariant-loop-place l = l.bytes ≡ row_bytes (take l.place l.row)
