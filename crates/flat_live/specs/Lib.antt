@@ -1,3 +1,4 @@
+pub mod ByKey
 pub mod FreePages
 pub mod Live
 pub mod Memory

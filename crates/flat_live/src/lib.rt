@@ -3,6 +3,7 @@
 //! The layer above uses one contract: each act of `Live` is the rule's on what a domain has alive. It stands on argo_model.
 #![tactic(auto)]
 
+mod by_key;
 mod change;
 mod closed_rings;
 mod final_rings;

@@ -1,11 +1,12 @@
 //! The senders that wait for room in a ring.
-ghost use Rattle.std.specs.Prelude.{◌≡◌, [], filter, map, IfOk, OnOk, OnErr};
+ghost use Rattle.std.specs.Prelude.{◌≡◌, [], filter, is_some, map, take, IfOk, OnOk, OnErr};
+ghost use Rattle.argo_base.specs.Limits.{most_notices};
 ghost use Rattle.argo_base.specs.Notices as notes;
 ghost use Rattle.argo_model.specs.Rules.Sweep.{waits_on};
 ghost use Rattle.argo_model.specs.Rules.Register.{can_fit};
 ghost use Rattle.argo_model.specs.Runs.Final.{notice_line_of};
 
-use argo_base::{DomId, MOST_NOTICES, NoMemory, slots};
+use argo_base::{DomId, DomList, MOST_NOTICES, NoMemory, slots};
 use argo_model::{NoticeLine, NoticeLines};
 use std::alloc::Global;
 use std::collections::BTreeMap;
@@ -40,6 +41,27 @@ impl NoticeMap {
         ensures { result ≡ notes.is_busy self.now dom }
     {
         !self.notices.contains_key(&dom) && self.notices.len() >= MOST_NOTICES
+    }
+
+    /// Whether the domain has a notice.
+    pub(crate) fn has(&self, dom: DomId) -> bool
+        ensures { result ≡ is_some (notes.size_of self.now dom) }
+    {
+        self.notices.contains_key(&dom)
+    }
+
+    /// The domains that have a notice, of which no more than 32 are told.
+    pub(crate) fn doms(&self) -> DomList
+        ensures { result ≡ take most_notices (notes.doms_of self.now) }
+    {
+        let mut doms = DomList::new();
+        for (dom, _) in &self.notices {
+            if doms.len() == MOST_NOTICES {
+                break;
+            }
+            doms.push(*dom);
+        }
+        doms
     }
 
     /// Sets the domain's notice, or raises it to the greater size.

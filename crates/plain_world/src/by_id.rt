@@ -1,0 +1,154 @@
+//! Rings of the domains, by their ids.
+ghost use Rattle.std.specs.Prelude.{◌≡◌, [], length, true, IfSome, IfNone};
+ghost use Rattle.argo_model.specs.Rules.Destroy as ends;
+ghost use Rattle.argo_model.specs.Rules.State.{live_of, change_domain, change_life};
+ghost use Rattle.std.specs.Option.{option_copied};
+ghost use Rattle.flat_live.specs.ByKey.{doms_on};
+ghost use Rattle.plain_world.specs.Ends.{ring_ended, notice_ended};
+ghost use Rattle.plain_world.specs.Found.{id_in, rings_of, ring_at, stands, is_noted, met_id, next_key};
+
+use crate::domains::Domains;
+use argo_base::{DomId, DomList, RingId, RingKey};
+use flat_live::Live;
+use std::alloc::Global;
+
+impl Domains {
+    // What a domain has that is alive.
+    fn live(&self, dom: DomId) -> Option<&Live>
+        ensures { option_copied result ≡ live_of self.now dom }
+    {
+        self.domains.get(&dom)?.life.as_ref()
+    }
+
+    /// Whether the ring stands.
+    pub(crate) fn stands(&self, id: RingId) -> bool
+        ensures { result ≡ stands self.now id }
+    {
+        match self.live(id.owner) {
+            Some(live) => live.has_ring(id.key()),
+            None => false,
+        }
+    }
+
+    /// Whether a domain waits on the ring.
+    pub(crate) fn is_noted(&self, id: RingId, dom: DomId) -> bool
+        ensures { result ≡ is_noted self.now id dom }
+    {
+        match self.live(id.owner) {
+            Some(live) => live.is_noted(id.key(), dom),
+            None => false,
+        }
+    }
+
+    /// The domains that wait on the ring, of which no more than 32 are told.
+    pub(crate) fn noted(&self, id: RingId) -> DomList
+        ensures { result ≡ doms_on (ring_at self.now id) }
+    {
+        match self.live(id.owner) {
+            Some(live) => live.noted(id.key()),
+            None => DomList::new(),
+        }
+    }
+
+    /// How many rings a domain has.
+    pub(crate) fn ring_count(&self, dom: DomId) -> usize
+        ensures { result ≡ length (rings_of self.now dom) }
+    {
+        match self.live(dom) {
+            Some(live) => live.ring_count(),
+            None => 0,
+        }
+    }
+
+    /// The first ring of a domain, if it has one.
+    pub(crate) fn first_ring(&self, dom: DomId) -> Option<RingId>
+        ensures there { IfSome result (λ id. stands self.now id ≡ true) }
+        ensures owner { IfSome result (λ id. id.owner ≡ dom) }
+        ensures none { IfNone result (rings_of self.now dom ≡ []) }
+    {
+        let live = self.live(dom)?;
+        let key = live.first_ring()?;
+        Some(id_of(dom, key))
+    }
+
+    /// The ring that a domain sweeps next after a serial; where it has none, one that does not stand.
+    pub(crate) fn next_ring(&self, dom: DomId, serial: u64) -> RingId
+        ensures { result ≡ id_in dom (next_key self.now dom serial) }
+    {
+        let none = RingKey {
+            port: 0,
+            partner: DomId::ANY,
+        };
+        let key = match self.live(dom) {
+            Some(live) => live.next_ring(serial).unwrap_or(none),
+            None => none,
+        };
+        id_of(dom, key)
+    }
+
+    /// The ring that a sender meets at a port, if it meets one: the ring for this sender, else the wildcard ring.
+    pub(crate) fn met(&self, to: DomId, port: u32, sender: DomId) -> RingId
+        ensures { result ≡ met_id self.now to port sender }
+    {
+        let own = RingId {
+            owner: to,
+            port,
+            partner: sender,
+        };
+        if self.stands(own) {
+            return own;
+        }
+        RingId {
+            owner: to,
+            port,
+            partner: DomId::ANY,
+        }
+    }
+
+    /// Ends a ring, where it stands.
+    pub(crate) fn end_ring(&mut self, id: RingId)
+        ensures { self.new ≡ ring_ended self.old id }
+    {
+        if let Some(domain) = self.domains.get_mut(&id.owner) {
+            domain.end_ring(id.key());
+        }
+    }
+
+    /// Ends a domain's notice on a ring, where it waits on it.
+    pub(crate) fn forget_notice(&mut self, id: RingId, dom: DomId)
+        ensures { self.new ≡ notice_ended self.old id dom }
+    {
+        if let Some(domain) = self.domains.get_mut(&id.owner) {
+            domain.forget_notice(id.key(), dom);
+        }
+    }
+
+    /// Ends one domain, where it is there.
+    pub(crate) fn end_one(&mut self, dom: DomId)
+        ensures { self.new ≡ change_domain self.old dom ends.gone_domain }
+    {
+        if let Some(domain) = self.domains.get_mut(&dom) {
+            domain.end();
+        }
+    }
+
+    /// Resets one domain, where it is there.
+    pub(crate) fn reset_one(&mut self, alloc: Global, dom: DomId)
+        ensures { self.new ≡ change_domain self.old dom (change_life ends.reset_live) }
+    {
+        if let Some(domain) = self.domains.get_mut(&dom) {
+            domain.reset(alloc);
+        }
+    }
+}
+
+// The id of a domain's ring.
+fn id_of(owner: DomId, key: RingKey) -> RingId
+    ensures { result ≡ id_in owner key }
+{
+    RingId {
+        owner,
+        port: key.port,
+        partner: key.partner,
+    }
+}

@@ -1,0 +1,209 @@
+//! Rings end one by one, and domains end by their lists.
+ghost use Rattle.std.specs.Prelude.{◌≡◌, ◌+◌, ◌-◌, ◌≤◌, ◌==◌, [], length, true};
+ghost use Rattle.argo_model.specs.declared.action.Action.TheVariants.{Unregister};
+ghost use Rattle.argo_model.specs.declared.scripts.Actor.TheVariants.{Vcpu};
+ghost use Rattle.argo_model.specs.Rules.Act.{act};
+ghost use Rattle.argo_model.specs.Rules.Destroy as rules;
+ghost use Rattle.domain_lists.specs.Lists.{ids_of, AreNoLonger};
+ghost use Rattle.plain_world.specs.Ends.{ring_ended, EndSame, AreFew};
+ghost use Rattle.plain_world.specs.Found.{rings_of};
+
+use crate::mends::{mend_sends, mend_waits};
+use crate::world::World;
+use argo_base::{DomId, Errno, RingId, RingKey};
+use argo_model::Outcome;
+use std::alloc::Global;
+
+/// How many rings the end of a domain came to: its own; those that were for it; and those on which it waited.
+#[derive(Clone, Copy, Debug, PartialEq, Eq)]
+pub(crate) struct Visits {
+    pub(crate) rings: usize,
+    pub(crate) senders: usize,
+    pub(crate) notices: usize,
+}
+
+impl Visits {
+    /// No ring.
+    pub(crate) const NONE: Visits = Visits {
+        rings: 0,
+        senders: 0,
+        notices: 0,
+    };
+}
+
+impl World {
+    /// A caller takes a ring away.
+    pub(crate) fn unregister(&mut self, dom: DomId, generation: u32, key: RingKey) -> Outcome
+        ensures { act (Vcpu dom generation) (Unregister key.port key.partner) self.old.state
+            ≡ record { outcome = result; state = self.new.state } }
+    {
+        let Some(on) = self.caller(dom, generation) else {
+            return Outcome::Gone;
+        };
+        if !on {
+            return Outcome::Refused(Errno::NoDev);
+        }
+        let id = RingId {
+            owner: dom,
+            port: key.port,
+            partner: key.partner,
+        };
+        if !self.domains.stands(id) {
+            return Outcome::Refused(Errno::NoEnt);
+        }
+        self.end_ring(id);
+        Outcome::Done
+    }
+
+    /// Ends a domain that is alive, and what others keep for it.
+    pub(crate) fn destroy(&mut self, dom: DomId) -> (Outcome, Visits)
+        ensures act { rules.destroy self.old.state dom
+            ≡ record { outcome = result.0; state = self.new.state } }
+        ensures visits { AreFew dom self.old result.1 }
+    {
+        if !self.domains.is_alive(dom) {
+            return (Outcome::Refused(Errno::Srch), Visits::NONE);
+        }
+        let visits = self.end_listed(dom);
+        self.domains.end_one(dom);
+        (Outcome::Done, visits)
+    }
+
+    /// Ends the rings of a domain that is alive, and what others keep for it, and clears its flag.
+    pub(crate) fn reset(&mut self, alloc: Global, dom: DomId) -> (Outcome, Visits)
+        ensures act { rules.reset self.old.state dom
+            ≡ record { outcome = result.0; state = self.new.state } }
+        ensures visits { AreFew dom self.old result.1 }
+    {
+        if !self.domains.is_alive(dom) {
+            return (Outcome::Refused(Errno::Srch), Visits::NONE);
+        }
+        let visits = self.end_listed(dom);
+        self.domains.reset_one(alloc, dom);
+        (Outcome::Done, visits)
+    }
+
+    // Ends the rings of a domain, those that are for it, and its notices, by its lists.
+    fn end_listed(&mut self, dom: DomId) -> Visits
+        ensures rings { rings_of self.new.state dom ≡ [] }
+        ensures same { EndSame dom (rules.forget self.old.state dom) self.new.state }
+        ensures visits { AreFew dom self.old result }
+    {
+        let rings = self.end_rings(dom);
+        let senders = self.end_senders(dom);
+        let notices = self.end_notices(dom);
+        Visits {
+            rings,
+            senders,
+            notices,
+        }
+    }
+
+    // Ends the rings of a domain: how many there were.
+    fn end_rings(&mut self, dom: DomId) -> usize
+        ensures none { rings_of self.new.state dom ≡ [] }
+        ensures same { EndSame dom
+            (rules.forget self.old.state dom) (rules.forget self.new.state dom) }
+        ensures count { result ≡ length (rings_of self.old.state dom) }
+        ensures sends { AreNoLonger self.old.sends self.new.sends }
+        ensures waits { AreNoLonger self.old.waits self.new.waits }
+    {
+        let count = self.domains.ring_count(dom);
+        for _ in 0..count {
+            self.end_first_ring(dom);
+        }
+        count
+    }
+
+    // Ends the first ring of a domain, if it has one.
+    fn end_first_ring(&mut self, dom: DomId)
+        ensures same { EndSame dom
+            (rules.forget self.old.state dom) (rules.forget self.new.state dom) }
+        ensures count { length (rings_of self.new.state dom)
+            ≡ length (rings_of self.old.state dom) - 1 }
+        ensures sends { AreNoLonger self.old.sends self.new.sends }
+        ensures waits { AreNoLonger self.old.waits self.new.waits }
+    {
+        if let Some(id) = self.domains.first_ring(dom) {
+            self.end_ring(id);
+        }
+    }
+
+    // Ends the rings that are for a domain: how many there were.
+    fn end_senders(&mut self, dom: DomId) -> usize
+        requires { rings_of self.old.state dom ≡ [] }
+        ensures rings { rings_of self.new.state dom ≡ [] }
+        ensures none { ids_of self.new.sends dom ≡ [] }
+        ensures same { rules.forget self.new.state dom ≡ rules.forget self.old.state dom }
+        ensures count { result ≡ length (ids_of self.old.sends dom) }
+        ensures waits { AreNoLonger self.old.waits self.new.waits }
+    {
+        let count = self.sends.count(dom);
+        for _ in 0..count {
+            self.end_first_sender(dom);
+        }
+        count
+    }
+
+    // Ends the first ring that is for a domain, if there is one.
+    fn end_first_sender(&mut self, dom: DomId)
+        requires { rings_of self.old.state dom ≡ [] }
+        ensures rings { rings_of self.new.state dom ≡ [] }
+        ensures same { rules.forget self.new.state dom ≡ rules.forget self.old.state dom }
+        ensures count { length (ids_of self.new.sends dom)
+            ≡ length (ids_of self.old.sends dom) - 1 }
+        ensures waits { AreNoLonger self.old.waits self.new.waits }
+    {
+        let Some(id) = self.sends.take_first(dom) else {
+            return;
+        };
+        let doms = self.domains.noted(id);
+        self.domains.end_ring(id);
+        if id.partner.is_any() {
+            mend_waits(&mut self.waits, &self.domains, doms.as_slice(), id);
+        }
+    }
+
+    // Ends the notices of a domain on wildcard rings: how many there were.
+    fn end_notices(&mut self, dom: DomId) -> usize
+        requires rings { rings_of self.old.state dom ≡ [] }
+        requires sends { ids_of self.old.sends dom ≡ [] }
+        ensures rings { rings_of self.new.state dom ≡ [] }
+        ensures is { self.new.state ≡ rules.forget self.old.state dom }
+        ensures count { result ≡ length (ids_of self.old.waits dom) }
+    {
+        let count = self.waits.count(dom);
+        for _ in 0..count {
+            self.end_first_notice(dom);
+        }
+        count
+    }
+
+    // Ends the first notice of a domain on a wildcard ring, if it has one.
+    fn end_first_notice(&mut self, dom: DomId)
+        requires { rings_of self.old.state dom ≡ [] }
+        ensures rings { rings_of self.new.state dom ≡ [] }
+        ensures sends { self.new.sends ≡ self.old.sends }
+        ensures same { rules.forget self.new.state dom ≡ rules.forget self.old.state dom }
+        ensures count { length (ids_of self.new.waits dom)
+            ≡ length (ids_of self.old.waits dom) - 1 }
+    {
+        if let Some(id) = self.waits.take_first(dom) {
+            self.domains.forget_notice(id, dom);
+        }
+    }
+
+    // Ends a ring, and takes it off the lists.
+    fn end_ring(&mut self, id: RingId)
+        ensures state { self.new.state ≡ ring_ended self.old.state id }
+        ensures sends { AreNoLonger self.old.sends self.new.sends }
+        ensures waits { AreNoLonger self.old.waits self.new.waits }
+    {
+        let doms = self.domains.noted(id);
+        self.domains.end_ring(id);
+        mend_sends(&mut self.sends, &self.domains, id);
+        if id.partner.is_any() {
+            mend_waits(&mut self.waits, &self.domains, doms.as_slice(), id);
+        }
+    }
+}
