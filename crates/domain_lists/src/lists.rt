@@ -67,9 +67,10 @@ impl DomainLists {
             → names self.new d x ≡ (names self.old d x && not (is_pair dom id d x)) }
         ensures lengths { AreNoLonger self.old self.new }
     {
-        if let Some(ids) = self.lists.get_mut(&dom) {
-            take_out(ids, id);
-        }
+        let Some(ids) = self.lists.get_mut(&dom) else {
+            return;
+        };
+        take_out(ids, id);
     }
 
     /// Takes the least ring off the list of a domain, if it names one. It takes no memory.
