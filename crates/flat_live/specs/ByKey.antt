@@ -1,8 +1,7 @@
 -- A ring of a key, and who waits for room in it.
-use Rattle.std.specs.Prelude.{ℕ, Bool, false, List, [], take, is_some, Option, Some, None}
+use Rattle.std.specs.Prelude.{ℕ, Bool, false, List, [], is_some, Option, Some, None}
 use Rattle.std.specs.Map.{set_value}
 use Rattle.std.specs.BTreeMap.{is_at}
-use Rattle.argo_base.specs.Limits.{most_notices}
 use Rattle.argo_base.specs.Match.{key_cmp}
 use Rattle.argo_base.specs.Notices.{size_of, doms_of}
 use Rattle.argo_base.specs.declared.ring_key.RingKey.{RingKey}
@@ -15,10 +14,10 @@ abbrev pub has_notice : Option Ring → ℕ → Bool
 has_notice None d = false
 has_notice (Some r) d = is_some (size_of r.notices d)
 
--- the domains that wait on it, of which so many can be told as there may be
+-- the domains that wait on it
 abbrev pub doms_on : Option Ring → List ℕ
 doms_on None = []
-doms_on (Some r) = take most_notices (doms_of r.notices)
+doms_on (Some r) = doms_of r.notices
 
 abbrev pub without_notice_of : Live → RingKey → ℕ → Option Ring → Live
 without_notice_of live key d None = live

@@ -50,8 +50,10 @@ impl Live {
         }
     }
 
-    /// The domains that wait for room in the ring of the key, of which no more than 32 are told. It takes no memory.
+    /// The domains that wait for room in the ring of the key. It takes no memory.
     pub fn noted(&self, key: RingKey) -> DomList
+        requires few { IfSome (rings.own_ring self.now key)
+            (λ ring. length ring.notices ≤ most_notices) }
         ensures { result ≡ doms_on (rings.own_ring self.now key) }
     {
         match self.rings.get(&key) {
@@ -71,8 +73,9 @@ impl Live {
     pub fn forget_notice(&mut self, key: RingKey, dom: DomId)
         ensures { self.new ≡ without_notice self.old key dom }
     {
-        if let Some(ring) = self.rings.get_mut(&key) {
-            ring.notices.withdraw(dom);
-        }
+        let Some(ring) = self.rings.get_mut(&key) else {
+            return;
+        };
+        ring.notices.withdraw(dom);
     }
 }

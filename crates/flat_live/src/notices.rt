@@ -1,5 +1,5 @@
 //! The senders that wait for room in a ring.
-ghost use Rattle.std.specs.Prelude.{◌≡◌, [], filter, is_some, map, take, IfOk, OnOk, OnErr};
+ghost use Rattle.std.specs.Prelude.{◌≡◌, [], filter, is_some, length, map, ◌≤◌, IfOk, OnOk, OnErr};
 ghost use Rattle.argo_base.specs.Limits.{most_notices};
 ghost use Rattle.argo_base.specs.Notices as notes;
 ghost use Rattle.argo_model.specs.Rules.Sweep.{waits_on};
@@ -50,15 +50,13 @@ impl NoticeMap {
         self.notices.contains_key(&dom)
     }
 
-    /// The domains that have a notice, of which no more than 32 are told.
+    /// The domains that have a notice. It takes no memory.
     pub(crate) fn doms(&self) -> DomList
-        ensures { result ≡ take most_notices (notes.doms_of self.now) }
+        requires { length self.now ≤ most_notices }
+        ensures { result ≡ notes.doms_of self.now }
     {
         let mut doms = DomList::new();
         for (dom, _) in &self.notices {
-            if doms.len() == MOST_NOTICES {
-                break;
-            }
             doms.push(*dom);
         }
         doms

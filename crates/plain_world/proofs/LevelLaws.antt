@@ -1,0 +1,125 @@
+-- Laws of the lists: they are exact after an act, where they are mended for what it touched.
+use Rattle.std.proofs.Common.{◌≡◌, ℕ, Bool, true, false, ◌==◌, ◌&&◌, ◌||◌, not, List, refl, sym, ap, ◌∙◌, subst, arith}
+use Rattle.std.specs.BTreeMap.{is_at}
+use Rattle.std.proofs.lemmas.Bool.Decides.{nat_tests}
+use Rattle.argo_base.specs.Match.{id_cmp, is_wildcard}
+use Rattle.argo_base.specs.declared.ring_key.RingId.{RingId}
+use Rattle.argo_model.specs.Rules.Register.{has_number}
+use Rattle.argo_model.specs.Rules.State.{State}
+use Rattle.domain_lists.specs.Lists.{RingLists, names, is_pair}
+use Rattle.domain_lists.proofs.IdLaws.{id_same, id_self}
+use Rattle.plain_world.specs.Found.{stands, is_noted}
+use Rattle.plain_world.specs.Levels.{is_for, waits_on, AreSends, AreWaits}
+use Rattle.plain_world.specs.Touches.{is_touched}
+
+and_true : (a : Bool) → (a && true) ≡ a
+and_true true = refl
+and_true false = refl
+
+and_false : (a : Bool) → (a && false) ≡ false
+and_false true = refl
+and_false false = refl
+
+-- a value that is true only where another is
+pub and_was : (a b : Bool) → (b ≡ true → a ≡ true) → (a && b) ≡ b
+and_was true b was = refl
+and_was false true was = was refl
+and_was false false was = refl
+
+eq_turned : (a b : ℕ) → (a == b) ≡ (b == a)
+eq_turned a b = by (a == b) (b == a) refl refl where
+  both_ways : (a b : ℕ) → (a == b) ≡ true → (b == a) ≡ true
+  both_ways a b h = grind (arith, nat_tests)
+
+  by : (t u : Bool) → (a == b) ≡ t → (b == a) ≡ u → t ≡ u
+  by true true e f = refl
+  by false false e f = refl
+  by true false e f = sym (both_ways a b e) ∙ f
+  by false true e f = sym e ∙ both_ways b a f
+
+-- ---- where nothing comes or goes
+
+pub sends_kept : (s t : State) (sends : RingLists) → ((x : RingId) → stands t x ≡ stands s x) → AreSends s sends → AreSends t sends
+sends_kept s t sends same h d x = h d x ∙ ap (λ b. (x.partner == d) && b) (sym (same x))
+
+pub waits_kept : (s t : State) (waits : RingLists) → ((x : RingId) (d : ℕ) → is_noted t x d ≡ is_noted s x d) → AreWaits s waits → AreWaits t waits
+waits_kept s t waits same h d x = h d x ∙ ap (λ b. is_wildcard x.partner && b) (sym (same x d))
+
+-- ---- send lists
+
+-- one ring may have come or gone: its partner's list names it if it stands
+pub sends_mended : (s t : State) (old mid new : RingLists) (id : RingId)
+    → AreSends s old
+    → ((d : ℕ) (x : RingId) → is_pair id.partner id d x ≡ false → names mid d x ≡ names old d x)
+    → ((x : RingId) → is_at (id_cmp id) x ≡ false → stands t x ≡ stands s x)
+    → (stands t id ≡ true → names mid id.partner id ≡ true)
+    → ((d : ℕ) (x : RingId) → names new d x ≡ (names mid d x && (not (is_pair id.partner id d x) || stands t id)))
+    → AreSends t new
+sends_mended s t old mid new id exact added others was mended d x = by (is_at (id_cmp id) x) (d == id.partner) refl refl where
+  by : (hit own : Bool) → is_at (id_cmp id) x ≡ hit → (d == id.partner) ≡ own → names new d x ≡ is_for t d x
+  by true true hit own =
+      let same = id_same id x hit in
+      let here : d ≡ id.partner = grind (arith, nat_tests) in
+      let pair : is_pair id.partner id d x ≡ true = ap (λ b. b && is_at (id_cmp id) x) own ∙ hit in
+      mended d x
+      ∙ ap (λ b. names mid d x && (not b || stands t id)) pair
+      ∙ and_was (names mid d x) (stands t id) (λ h. ap (λ q. names mid q x) here ∙ ap (λ y. names mid id.partner y) (sym same) ∙ was h)
+      ∙ ap (stands t) same
+      ∙ ap (λ b. b && stands t x) (sym (ap (λ y. y.partner == d) (sym same) ∙ eq_turned id.partner d ∙ own))
+  by true false hit own =
+      let same = id_same id x hit in
+      let pair : is_pair id.partner id d x ≡ false = ap (λ b. b && is_at (id_cmp id) x) own in
+      let apart : (x.partner == d) ≡ false = ap (λ (y : RingId). y.partner == d) (sym same) ∙ eq_turned id.partner d ∙ own in
+      mended d x
+      ∙ ap (λ b. names mid d x && (not b || stands t id)) pair
+      ∙ and_true (names mid d x)
+      ∙ added d x pair ∙ exact d x
+      ∙ ap (λ b. b && stands s x) apart ∙ ap (λ b. b && stands t x) (sym apart)
+  by false own hit is =
+      let pair : is_pair id.partner id d x ≡ false = ap (λ b. (d == id.partner) && b) hit ∙ and_false (d == id.partner) in
+      mended d x
+      ∙ ap (λ b. names mid d x && (not b || stands t id)) pair
+      ∙ and_true (names mid d x)
+      ∙ added d x pair ∙ exact d x
+      ∙ ap (λ b. (x.partner == d) && b) (sym (others x hit))
+
+-- ---- wildcard lists
+
+-- notices of some domains on one wildcard ring may have come or gone: the list of each names the ring if it waits there
+pub waits_mended : (s t : State) (old mid new : RingLists) (id : RingId) (doms : List ℕ)
+    → AreWaits s old → is_wildcard id.partner ≡ true
+    → ((d : ℕ) (x : RingId) → is_touched id doms x d ≡ false → names mid d x ≡ names old d x)
+    → ((x : RingId) (d : ℕ) → is_touched id doms x d ≡ false → is_noted t x d ≡ is_noted s x d)
+    → ((d : ℕ) → has_number doms d ≡ true → is_noted t id d ≡ true → names mid d id ≡ true)
+    → ((d : ℕ) (x : RingId) → names new d x ≡ (names mid d x && (not (is_touched id doms x d) || is_noted t id d)))
+    → AreWaits t new
+waits_mended s t old mid new id doms exact wild added others was mended d x = by (is_at (id_cmp id) x) (has_number doms d) refl refl where
+  rest : is_touched id doms x d ≡ false → names new d x ≡ waits_on t d x
+  rest apart =
+      mended d x
+      ∙ ap (λ b. names mid d x && (not b || is_noted t id d)) apart
+      ∙ and_true (names mid d x)
+      ∙ added d x apart ∙ exact d x
+      ∙ ap (λ b. is_wildcard x.partner && b) (sym (others x d apart))
+
+  by : (hit own : Bool) → is_at (id_cmp id) x ≡ hit → has_number doms d ≡ own → names new d x ≡ waits_on t d x
+  by true true hit own =
+      let same = id_same id x hit in
+      let touched : is_touched id doms x d ≡ true = ap (λ b. b && is_at (id_cmp id) x) own ∙ hit in
+      mended d x
+      ∙ ap (λ b. names mid d x && (not b || is_noted t id d)) touched
+      ∙ and_was (names mid d x) (is_noted t id d) (λ h. ap (λ y. names mid d y) (sym same) ∙ was d own h)
+      ∙ ap (λ y. is_noted t y d) same
+      ∙ ap (λ b. b && is_noted t x d) (sym (ap (λ (y : RingId). is_wildcard y.partner) (sym same) ∙ wild))
+  by true false hit own = rest (ap (λ b. b && is_at (id_cmp id) x) own)
+  by false own hit is = rest (ap (λ b. has_number doms d && b) hit ∙ and_false (has_number doms d))
+
+-- what goes on at a ring that is for one domain changes no wildcard list
+pub waits_apart : (s t : State) (waits : RingLists) (id : RingId) → AreWaits s waits → is_wildcard id.partner ≡ false
+    → ((x : RingId) (d : ℕ) → is_at (id_cmp id) x ≡ false → is_noted t x d ≡ is_noted s x d) → AreWaits t waits
+waits_apart s t waits id exact single others d x = by (is_at (id_cmp id) x) refl where
+  by : (hit : Bool) → is_at (id_cmp id) x ≡ hit → names waits d x ≡ waits_on t d x
+  by true hit =
+      let wild : is_wildcard x.partner ≡ false = ap (λ (y : RingId). is_wildcard y.partner) (sym (id_same id x hit)) ∙ single in
+      exact d x ∙ ap (λ b. b && is_noted s x d) wild ∙ ap (λ b. b && is_noted t x d) (sym wild)
+  by false hit = exact d x ∙ ap (λ b. is_wildcard x.partner && b) (sym (others x d hit))
