@@ -1,5 +1,6 @@
 //! Rings of the domains, by their ids.
-ghost use Rattle.std.specs.Prelude.{◌≡◌, [], length, true, IfSome, IfNone};
+ghost use Rattle.std.specs.Prelude.{◌≡◌, ◌≤◌, [], length, true, IfSome, IfNone};
+ghost use Rattle.argo_base.specs.Limits.{most_notices};
 ghost use Rattle.argo_model.specs.Rules.Destroy as ends;
 ghost use Rattle.argo_model.specs.Rules.State.{live_of, change_domain, change_life};
 ghost use Rattle.std.specs.Option.{option_copied};
@@ -40,8 +41,10 @@ impl Domains {
         }
     }
 
-    /// The domains that wait on the ring, of which no more than 32 are told.
+    /// The domains that wait on the ring. It takes no memory.
     pub(crate) fn noted(&self, id: RingId) -> DomList
+        requires few { IfSome (ring_at self.now id)
+            (λ ring. length ring.notices ≤ most_notices) }
         ensures { result ≡ doms_on (ring_at self.now id) }
     {
         match self.live(id.owner) {

@@ -16,8 +16,6 @@ mod listed;
 mod mends;
 mod own;
 mod plain_world;
-#[cfg(test)]
-mod tests;
 mod world;
 
 pub use plain_world::PlainWorld;
