@@ -20,11 +20,8 @@ and_false : (a : Bool) → (a && false) ≡ false
 and_false true = refl
 and_false false = refl
 
--- a value that is true only where another is
-pub and_was : (a b : Bool) → (b ≡ true → a ≡ true) → (a && b) ≡ b
-and_was true b was = refl
-and_was false true was = was refl
-and_was false false was = refl
+eq_same : (a b : ℕ) → (a == b) ≡ true → a ≡ b
+eq_same a b h = grind (arith, nat_tests)
 
 eq_turned : (a b : ℕ) → (a == b) ≡ (b == a)
 eq_turned a b = by (a == b) (b == a) refl refl where
@@ -48,71 +45,79 @@ waits_kept s t waits same h d x = h d x ∙ ap (λ b. is_wildcard x.partner && b
 -- ---- send lists
 
 -- one ring may have come or gone: its partner's list names it if it stands
-pub sends_mended : (s t : State) (old mid new : RingLists) (id : RingId)
+pub sends_mended : (s t : State) (old new : RingLists) (id : RingId)
     → AreSends s old
-    → ((d : ℕ) (x : RingId) → is_pair id.partner id d x ≡ false → names mid d x ≡ names old d x)
+    → ((d : ℕ) (x : RingId) → is_pair id.partner id d x ≡ false → names new d x ≡ names old d x)
+    → names new id.partner id ≡ stands t id
     → ((x : RingId) → is_at (id_cmp id) x ≡ false → stands t x ≡ stands s x)
-    → (stands t id ≡ true → names mid id.partner id ≡ true)
-    → ((d : ℕ) (x : RingId) → names new d x ≡ (names mid d x && (not (is_pair id.partner id d x) || stands t id)))
     → AreSends t new
-sends_mended s t old mid new id exact added others was mended d x = by (is_at (id_cmp id) x) (d == id.partner) refl refl where
+sends_mended s t old new id exact apart here others d x = by (is_at (id_cmp id) x) (d == id.partner) refl refl where
   by : (hit own : Bool) → is_at (id_cmp id) x ≡ hit → (d == id.partner) ≡ own → names new d x ≡ is_for t d x
   by true true hit own =
       let same = id_same id x hit in
-      let here : d ≡ id.partner = grind (arith, nat_tests) in
-      let pair : is_pair id.partner id d x ≡ true = ap (λ b. b && is_at (id_cmp id) x) own ∙ hit in
-      mended d x
-      ∙ ap (λ b. names mid d x && (not b || stands t id)) pair
-      ∙ and_was (names mid d x) (stands t id) (λ h. ap (λ q. names mid q x) here ∙ ap (λ y. names mid id.partner y) (sym same) ∙ was h)
+      let at : d ≡ id.partner = eq_same d id.partner own in
+      ap (λ q. names new q x) at ∙ ap (λ y. names new id.partner y) (sym same) ∙ here
       ∙ ap (stands t) same
-      ∙ ap (λ b. b && stands t x) (sym (ap (λ y. y.partner == d) (sym same) ∙ eq_turned id.partner d ∙ own))
+      ∙ ap (λ b. b && stands t x) (sym (ap (λ (y : RingId). y.partner == d) (sym same) ∙ eq_turned id.partner d ∙ own))
   by true false hit own =
       let same = id_same id x hit in
       let pair : is_pair id.partner id d x ≡ false = ap (λ b. b && is_at (id_cmp id) x) own in
-      let apart : (x.partner == d) ≡ false = ap (λ (y : RingId). y.partner == d) (sym same) ∙ eq_turned id.partner d ∙ own in
-      mended d x
-      ∙ ap (λ b. names mid d x && (not b || stands t id)) pair
-      ∙ and_true (names mid d x)
-      ∙ added d x pair ∙ exact d x
-      ∙ ap (λ b. b && stands s x) apart ∙ ap (λ b. b && stands t x) (sym apart)
+      let other : (x.partner == d) ≡ false = ap (λ (y : RingId). y.partner == d) (sym same) ∙ eq_turned id.partner d ∙ own in
+      apart d x pair ∙ exact d x ∙ ap (λ b. b && stands s x) other ∙ ap (λ b. b && stands t x) (sym other)
   by false own hit is =
-      let pair : is_pair id.partner id d x ≡ false = ap (λ b. (d == id.partner) && b) hit ∙ and_false (d == id.partner) in
-      mended d x
-      ∙ ap (λ b. names mid d x && (not b || stands t id)) pair
-      ∙ and_true (names mid d x)
-      ∙ added d x pair ∙ exact d x
+      apart d x (ap (λ b. (d == id.partner) && b) hit ∙ and_false (d == id.partner)) ∙ exact d x
       ∙ ap (λ b. (x.partner == d) && b) (sym (others x hit))
 
 -- ---- wildcard lists
 
 -- notices of some domains on one wildcard ring may have come or gone: the list of each names the ring if it waits there
-pub waits_mended : (s t : State) (old mid new : RingLists) (id : RingId) (doms : List ℕ)
+pub waits_mended : (s t : State) (old new : RingLists) (id : RingId) (doms : List ℕ)
     → AreWaits s old → is_wildcard id.partner ≡ true
-    → ((d : ℕ) (x : RingId) → is_touched id doms x d ≡ false → names mid d x ≡ names old d x)
+    → ((d : ℕ) (x : RingId) → is_touched id doms x d ≡ false → names new d x ≡ names old d x)
+    → ((d : ℕ) → has_number doms d ≡ true → names new d id ≡ is_noted t id d)
     → ((x : RingId) (d : ℕ) → is_touched id doms x d ≡ false → is_noted t x d ≡ is_noted s x d)
-    → ((d : ℕ) → has_number doms d ≡ true → is_noted t id d ≡ true → names mid d id ≡ true)
-    → ((d : ℕ) (x : RingId) → names new d x ≡ (names mid d x && (not (is_touched id doms x d) || is_noted t id d)))
     → AreWaits t new
-waits_mended s t old mid new id doms exact wild added others was mended d x = by (is_at (id_cmp id) x) (has_number doms d) refl refl where
+waits_mended s t old new id doms exact wild apart here others d x = by (is_at (id_cmp id) x) (has_number doms d) refl refl where
   rest : is_touched id doms x d ≡ false → names new d x ≡ waits_on t d x
-  rest apart =
-      mended d x
-      ∙ ap (λ b. names mid d x && (not b || is_noted t id d)) apart
-      ∙ and_true (names mid d x)
-      ∙ added d x apart ∙ exact d x
-      ∙ ap (λ b. is_wildcard x.partner && b) (sym (others x d apart))
+  rest none = apart d x none ∙ exact d x ∙ ap (λ b. is_wildcard x.partner && b) (sym (others x d none))
 
   by : (hit own : Bool) → is_at (id_cmp id) x ≡ hit → has_number doms d ≡ own → names new d x ≡ waits_on t d x
   by true true hit own =
       let same = id_same id x hit in
-      let touched : is_touched id doms x d ≡ true = ap (λ b. b && is_at (id_cmp id) x) own ∙ hit in
-      mended d x
-      ∙ ap (λ b. names mid d x && (not b || is_noted t id d)) touched
-      ∙ and_was (names mid d x) (is_noted t id d) (λ h. ap (λ y. names mid d y) (sym same) ∙ was d own h)
-      ∙ ap (λ y. is_noted t y d) same
+      ap (λ y. names new d y) (sym same) ∙ here d own ∙ ap (λ y. is_noted t y d) same
       ∙ ap (λ b. b && is_noted t x d) (sym (ap (λ (y : RingId). is_wildcard y.partner) (sym same) ∙ wild))
   by true false hit own = rest (ap (λ b. b && is_at (id_cmp id) x) own)
   by false own hit is = rest (ap (λ b. has_number doms d && b) hit ∙ and_false (has_number doms d))
+
+-- ---- lists that were mended
+
+-- one ring was added to a list, or was there, and is kept if it should be
+pub kept_apart : (old mid new : RingLists) (dom : ℕ) (id : RingId) (keep : Bool)
+    → ((d : ℕ) (x : RingId) → names mid d x ≡ (is_pair dom id d x || names old d x))
+    → ((d : ℕ) (x : RingId) → names new d x ≡ (names mid d x && (not (is_pair dom id d x) || keep)))
+    → (d : ℕ) (x : RingId) → is_pair dom id d x ≡ false → names new d x ≡ names old d x
+kept_apart old mid new dom id keep added kept d x none =
+    kept d x ∙ ap (λ b. names mid d x && (not b || keep)) none ∙ and_true (names mid d x) ∙ added d x ∙ ap (λ b. b || names old d x) none
+
+self_pair : (dom : ℕ) (id : RingId) → is_pair dom id dom id ≡ true
+self_pair dom id = ap (λ b. b && is_at (id_cmp id) id) self ∙ id_self id where
+  self : (dom == dom) ≡ true
+  self = grind (arith, nat_tests)
+
+pub kept_here : (old mid new : RingLists) (dom : ℕ) (id : RingId) (keep : Bool)
+    → ((d : ℕ) (x : RingId) → names mid d x ≡ (is_pair dom id d x || names old d x))
+    → ((d : ℕ) (x : RingId) → names new d x ≡ (names mid d x && (not (is_pair dom id d x) || keep)))
+    → names new dom id ≡ keep
+kept_here old mid new dom id keep added kept =
+    let pair = self_pair dom id in
+    kept dom id ∙ ap (λ b. names mid dom id && (not b || keep)) pair ∙ ap (λ b. b && keep) (added dom id ∙ ap (λ b. b || names old dom id) pair)
+
+-- rings that were taken off lists
+pub off_apart : (old new : RingLists) (gone : Bool) (d : ℕ) (x : RingId) → names new d x ≡ (names old d x && not gone) → gone ≡ false → names new d x ≡ names old d x
+off_apart old new gone d x is none = is ∙ ap (λ b. names old d x && not b) none ∙ and_true (names old d x)
+
+pub off_here : (old new : RingLists) (gone : Bool) (d : ℕ) (x : RingId) → names new d x ≡ (names old d x && not gone) → gone ≡ true → names new d x ≡ false
+off_here old new gone d x is hit = is ∙ ap (λ b. names old d x && not b) hit ∙ and_false (names old d x)
 
 -- what goes on at a ring that is for one domain changes no wildcard list
 pub waits_apart : (s t : State) (waits : RingLists) (id : RingId) → AreWaits s waits → is_wildcard id.partner ≡ false

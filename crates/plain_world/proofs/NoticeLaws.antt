@@ -1,5 +1,5 @@
 -- Laws of who waits on a ring, and of rings by their keys.
-use Rattle.std.proofs.Common.{◌≡◌, ◌≢◌, ℕ, Bool, true, false, cond, ◌==◌, ◌&&◌, ◌||◌, not, List, [], ◌∷◌, ◌++◌, filter, map, is_some, Option, Some, None, option_map, refl, sym, ap, ◌∙◌, subst, arith}
+use Rattle.std.proofs.Common.{◌≡◌, ◌≢◌, ℕ, ◌<◌, Bool, true, false, cond, ◌==◌, ◌&&◌, ◌||◌, not, List, [], ◌∷◌, ◌++◌, filter, map, is_some, Option, Some, None, option_map, refl, sym, ap, ◌∙◌, subst, arith}
 use Rattle.std.specs.declared.cmp.Ordering.{Ordering}
 use Rattle.std.specs.declared.cmp.Ordering.TheVariants.{Less, Equal, Greater}
 use Rattle.std.specs.Ordering.{nat_cmp, match_ordering, is_eq}
@@ -11,10 +11,11 @@ use Rattle.argo_base.specs.Notices.{Notices, size_of, doms_of}
 use Rattle.argo_base.specs.declared.ring_key.RingKey.{RingKey}
 use Rattle.argo_model.specs.Rules.Register.{has_number}
 use Rattle.argo_model.specs.Rules.State.{Ring}
-use Rattle.state_laws.specs.Each.{Each}
+use Rattle.state_laws.specs.Each.{Each, EachTwo}
 use Rattle.state_laws.specs.Valid.{AreApart}
 use Rattle.state_laws.proofs.Lives.{key_same, key_self, key_other}
-use Rattle.state_laws.proofs.Rising.{cmp_equal, is_at_same, is_at_self}
+use Rattle.state_laws.proofs.Lists.{each_weak, each_filter}
+use Rattle.state_laws.proofs.Rising.{cmp_equal, is_at_same, is_at_self, absent}
 
 at_not : (d k : ℕ) → (d == k) ≡ false → is_at (nat_cmp k) d ≡ false
 at_not d k h = grind (arith, nat_tests)
@@ -79,13 +80,53 @@ module _ (out : ℕ × ℕ → Bool) where
       at true = refl
       at false = rest h
 
+-- what holds of the domain of every notice holds of one of these
+among : (P : ℕ → Type 0) (out : ℕ × ℕ → Bool) (ns : Notices) (d : ℕ) → Each (λ (n : ℕ × ℕ). P n.0) ns → has_number (doms_of (filter out ns)) d ≡ true → P d
+among P out [] d all h = cc
+among P out (e ∷ es) d all h = by (out e) h (among P out es d all.1) where
+  number : (a b : ℕ) → (a == b) ≡ true → a ≡ b
+  number a b h = grind (arith, nat_tests)
+
+  by : (b : Bool) → has_number (doms_of (cond b (e ∷ filter out es) (filter out es))) d ≡ true → (has_number (doms_of (filter out es)) d ≡ true → P d) → P d
+  by true h rest = at (e.0 == d) refl h where
+    at : (b : Bool) → (e.0 == d) ≡ b → (b || has_number (doms_of (filter out es)) d) ≡ true → P d
+    at true is h = subst P (number e.0 d is) all.0
+    at false is h = rest h
+  by false h rest = rest h
+
+-- notices of domains that differ: those that went out stand no more
+pub none_left : (out : ℕ × ℕ → Bool) (ns : Notices) (d : ℕ) → EachTwo (λ (a b : ℕ × ℕ). a.0 < b.0) ns → has_number (doms_of (filter out ns)) d ≡ true
+    → is_some (size_of (filter (λ n. not (out n)) ns) d) ≡ false
+none_left out [] d rising h = cc
+none_left out (e ∷ es) d rising h = by (out e) h (none_left out es d rising.1) where
+  number : (a b : ℕ) → (a == b) ≡ true → a ≡ b
+  number a b h = grind (arith, nat_tests)
+
+  later : (a b : ℕ) → a < b → is_at (nat_cmp b) a ≡ false
+  later a b h = grind (arith, nat_tests)
+
+  by : (b : Bool) → has_number (doms_of (cond b (e ∷ filter out es) (filter out es))) d ≡ true
+      → (has_number (doms_of (filter out es)) d ≡ true → is_some (size_of (filter (λ n. not (out n)) es) d) ≡ false)
+      → is_some (size_of (cond (not b) (e ∷ filter (λ n. not (out n)) es) (filter (λ n. not (out n)) es)) d) ≡ false
+  by true h rest = at (e.0 == d) refl h where
+    at : (b : Bool) → (e.0 == d) ≡ b → (b || has_number (doms_of (filter out es)) d) ≡ true → is_some (size_of (filter (λ n. not (out n)) es) d) ≡ false
+    at true is h =
+        ap is_some (absent d (filter (λ n. not (out n)) es)
+        (each_filter (λ (f : ℕ × ℕ). d ≢ f.0) (λ n. not (out n)) es (each_weak (λ (f : ℕ × ℕ). e.0 < f.0) (λ (f : ℕ × ℕ). d ≢ f.0) (λ f l same. before (number e.0 d is) same l) es rising.0))) where
+          before : {a b c : ℕ} → a ≡ b → b ≡ c → a < c → ⊥
+          before s t l = omega arith
+    at false is h = rest h
+  by false h rest =
+      ap (λ (b : Bool). is_some (cond b (Some e.1) (size_of (filter (λ n. not (out n)) es) d))) (later e.0 d (among (λ k. e.0 < k) out es d rising.0 h)) ∙ rest h
+
 -- who is none of those that wait does not wait
 pub not_waiting : (ns : Notices) (d : ℕ) → has_number (doms_of ns) d ≡ false → is_some (size_of ns d) ≡ false
 not_waiting [] d h = refl
-not_waiting (e ∷ es) d h = by (e.0 == d) refl h where
-  by : (b : Bool) → (e.0 == d) ≡ b → (b || has_number (doms_of es) d) ≡ false → is_some (cond (is_at (nat_cmp d) e.0) (Some e.1) (size_of es d)) ≡ false
-  by true is h = cc
-  by false is h = ap (λ (b : Bool). is_some (cond b (Some e.1) (size_of es d))) (at_not e.0 d is) ∙ not_waiting es d h
+not_waiting (e ∷ es) d h = by (e.0 == d) refl h (not_waiting es d) where
+  by : (b : Bool) → (e.0 == d) ≡ b → (b || has_number (doms_of es) d) ≡ false → (has_number (doms_of es) d ≡ false → is_some (size_of es d) ≡ false)
+      → is_some (cond (is_at (nat_cmp d) e.0) (Some e.1) (size_of es d)) ≡ false
+  by true is h rest = cc
+  by false is h rest = ap (λ (b : Bool). is_some (cond b (Some e.1) (size_of es d))) (at_not e.0 d is) ∙ rest h
 
 -- ---- rings by their keys
 

@@ -4,7 +4,7 @@ use Rattle.std.specs.declared.cmp.Ordering.{Ordering}
 use Rattle.std.specs.declared.cmp.Ordering.TheVariants.{Less, Equal, Greater}
 use Rattle.std.specs.Ordering.{nat_cmp, ordering_then, is_eq}
 use Rattle.std.specs.BTreeMap.{is_at}
-use Rattle.std.proofs.lemmas.Bool.{false_from_ne_true}
+use Rattle.std.proofs.lemmas.Bool.{false_from_ne_true, false≢true}
 use Rattle.std.proofs.lemmas.Bool.Decides.{nat_tests}
 use Rattle.argo_base.specs.Match.{key_cmp, id_cmp, key_in}
 use Rattle.argo_base.specs.declared.ring_key.RingId.{RingId}
@@ -103,13 +103,13 @@ id_there d key x apart = false_from_ne_true (is_at (id_cmp (id_in d key)) x) (λ
 pub record TouchesLive (live new : Live) (key : RingKey) (doms : List ℕ) : Type 0 where
   pub stands : (k : RingKey) → is_at (key_cmp key) k ≡ false → is_some (own_ring new k) ≡ is_some (own_ring live k)
   pub notices : (k : RingKey) (d : ℕ) → (has_number doms d && is_at (key_cmp key) k) ≡ false → has_notice (own_ring new k) d ≡ has_notice (own_ring live k) d
-  pub no_new : (d : ℕ) → has_notice (own_ring new key) d ≡ true → has_notice (own_ring live key) d ≡ true
+  pub ended : (d : ℕ) → has_number doms d ≡ true → has_notice (own_ring new key) d ≡ false
 
-pub touches_self : (live : Live) (key : RingKey) (doms : List ℕ) → TouchesLive live live key doms
-touches_self live key doms = record { stands = λ k h. refl; notices = λ k d h. refl; no_new = λ d h. h }
+pub touches_self : (live : Live) (key : RingKey) → TouchesLive live live key []
+touches_self live key = record { stands = λ k h. refl; notices = λ k d h. refl; ended = λ d h. absurd (false≢true h) }
 
-pub touches_same : (s : State) (id : RingId) (doms : List ℕ) → Touches s s id doms
-touches_same s id doms = record { stands = λ k h. refl; notices = λ k d h. refl; no_new = λ d h. h }
+pub touches_same : (s : State) (id : RingId) → Touches s s id []
+touches_same s id = record { stands = λ k h. refl; notices = λ k d h. refl; ended = λ d h. absurd (false≢true h) }
 
 module _ (s : State) (d : ℕ) (x : Domain) (live : Live) (here : domain_of s d ≡ Some x) (lives : x.life ≡ Some live) where
   found_ring : (id : RingId) → (d == id.owner) ≡ true → ring_at s id ≡ own_ring live (key_in id)
@@ -123,8 +123,8 @@ module _ (s : State) (d : ℕ) (x : Domain) (live : Live) (here : domain_of s d 
       record {
         stands = λ y apart. ap is_some (ring_in_change s d x live c y here lives) ∙ stand y apart (d == y.owner) refl;
         notices = λ y q apart. ap (λ r. has_notice r q) (ring_in_change s d x live c y here lives) ∙ note y q apart (d == y.owner) refl;
-        no_new = λ q h. ap (λ r. has_notice r q) (found_ring (id_in d key) self)
-            ∙ t.no_new q (ap (λ b. has_notice (cond b (own_ring (after live c) key) (ring_at s (id_in d key))) q) (sym self) ∙ ap (λ r. has_notice r q) (sym (ring_in_change s d x live c (id_in d key) here lives)) ∙ h);
+        ended = λ q h. ap (λ r. has_notice r q) (ring_in_change s d x live c (id_in d key) here lives)
+            ∙ ap (λ b. has_notice (cond b (own_ring (after live c) key) (ring_at s (id_in d key))) q) self ∙ t.ended q h;
       } where
         stand : (y : RingId) → is_at (id_cmp (id_in d key)) y ≡ false → (b : Bool) → (d == y.owner) ≡ b
             → is_some (cond b (own_ring (after live c) (key_in y)) (ring_at s y)) ≡ stands s y

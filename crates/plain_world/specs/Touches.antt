@@ -1,4 +1,4 @@
--- A state after an act that touches one ring and the notices of some domains on it.
+-- A state after an act, as the lists see it: where rings stand, and who waits on them.
 use Rattle.std.specs.Prelude.{◌≡◌, ℕ, ◌&&◌, Bool, true, false, List}
 use Rattle.std.specs.BTreeMap.{is_at}
 use Rattle.argo_base.specs.Match.{id_cmp}
@@ -11,8 +11,8 @@ use Rattle.plain_world.specs.Found.{stands, is_noted}
 abbrev pub is_touched : RingId → List ℕ → RingId → ℕ → Bool
 is_touched id doms x d = has_number doms d && is_at (id_cmp id) x
 
--- every other ring stands where it stood, and every other notice; a notice of these domains on the ring may have ended
+-- every other ring stands where it stood, and so does every notice but those of these domains on the ring, which ended
 pub record Touches (s t : State) (id : RingId) (doms : List ℕ) : Type 0 where
   pub stands : (x : RingId) → is_at (id_cmp id) x ≡ false → stands t x ≡ stands s x
   pub notices : (x : RingId) (d : ℕ) → is_touched id doms x d ≡ false → is_noted t x d ≡ is_noted s x d
-  pub no_new : (d : ℕ) → is_noted t id d ≡ true → is_noted s id d ≡ true
+  pub ended : (d : ℕ) → has_number doms d ≡ true → is_noted t id d ≡ false

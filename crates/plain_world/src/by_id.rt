@@ -22,8 +22,8 @@ impl Domains {
     }
 
     /// Whether the ring stands.
-    pub(crate) fn stands(&self, id: RingId) -> bool
-        ensures { result ≡ stands self.now id }
+    pub(crate) fn stands(&self, id: &RingId) -> bool
+        ensures { result ≡ stands self.now id.now }
     {
         match self.live(id.owner) {
             Some(live) => live.has_ring(id.key()),
@@ -32,8 +32,8 @@ impl Domains {
     }
 
     /// Whether a domain waits on the ring.
-    pub(crate) fn is_noted(&self, id: RingId, dom: DomId) -> bool
-        ensures { result ≡ is_noted self.now id dom }
+    pub(crate) fn is_noted(&self, id: &RingId, dom: DomId) -> bool
+        ensures { result ≡ is_noted self.now id.now dom }
     {
         match self.live(id.owner) {
             Some(live) => live.is_noted(id.key(), dom),
@@ -42,10 +42,10 @@ impl Domains {
     }
 
     /// The domains that wait on the ring. It takes no memory.
-    pub(crate) fn noted(&self, id: RingId) -> DomList
-        requires few { IfSome (ring_at self.now id)
+    pub(crate) fn noted(&self, id: &RingId) -> DomList
+        requires few { IfSome (ring_at self.now id.now)
             (λ ring. length ring.notices ≤ most_notices) }
-        ensures { result ≡ doms_on (ring_at self.now id) }
+        ensures { result ≡ doms_on (ring_at self.now id.now) }
     {
         match self.live(id.owner) {
             Some(live) => live.noted(id.key()),
@@ -93,24 +93,23 @@ impl Domains {
     pub(crate) fn met(&self, to: DomId, port: u32, sender: DomId) -> RingId
         ensures { result ≡ met_id self.now to port sender }
     {
-        let own = RingId {
-            owner: to,
+        let own = RingKey {
             port,
             partner: sender,
         };
-        if self.stands(own) {
-            return own;
+        if self.stands(&id_of(to, own)) {
+            return id_of(to, own);
         }
-        RingId {
-            owner: to,
+        let any = RingKey {
             port,
             partner: DomId::ANY,
-        }
+        };
+        id_of(to, any)
     }
 
     /// Ends a ring, where it stands.
-    pub(crate) fn end_ring(&mut self, id: RingId)
-        ensures { self.new ≡ ring_ended self.old id }
+    pub(crate) fn end_ring(&mut self, id: &RingId)
+        ensures { self.new ≡ ring_ended self.old id.now }
     {
         if let Some(domain) = self.domains.get_mut(&id.owner) {
             domain.end_ring(id.key());
@@ -118,8 +117,8 @@ impl Domains {
     }
 
     /// Ends a domain's notice on a ring, where it waits on it.
-    pub(crate) fn forget_notice(&mut self, id: RingId, dom: DomId)
-        ensures { self.new ≡ notice_ended self.old id dom }
+    pub(crate) fn forget_notice(&mut self, id: &RingId, dom: DomId)
+        ensures { self.new ≡ notice_ended self.old id.now dom }
     {
         if let Some(domain) = self.domains.get_mut(&id.owner) {
             domain.forget_notice(id.key(), dom);
@@ -145,8 +144,8 @@ impl Domains {
     }
 }
 
-// The id of a domain's ring.
-fn id_of(owner: DomId, key: RingKey) -> RingId
+/// The id of a domain's ring.
+pub(crate) fn id_of(owner: DomId, key: RingKey) -> RingId
     ensures { result ≡ id_in owner key }
 {
     RingId {

@@ -8,7 +8,8 @@ ghost use Rattle.domain_lists.specs.Lists.{ids_of, AreNoLonger};
 ghost use Rattle.plain_world.specs.Ends.{ring_ended, EndSame, AreFew};
 ghost use Rattle.plain_world.specs.Found.{rings_of};
 
-use crate::mends::{mend_sends, mend_waits};
+use crate::by_id::id_of;
+use crate::mends::{keep_if, take_off};
 use crate::world::World;
 use argo_base::{DomId, Errno, RingId, RingKey};
 use argo_model::Outcome;
@@ -43,15 +44,11 @@ impl World {
         if !on {
             return Outcome::Refused(Errno::NoDev);
         }
-        let id = RingId {
-            owner: dom,
-            port: key.port,
-            partner: key.partner,
-        };
-        if !self.domains.stands(id) {
+        let id = id_of(dom, key);
+        if !self.domains.stands(&id) {
             return Outcome::Refused(Errno::NoEnt);
         }
-        self.end_ring(id);
+        self.end_ring(&id);
         Outcome::Done
     }
 
@@ -125,7 +122,7 @@ impl World {
         ensures waits { AreNoLonger self.old.waits self.new.waits }
     {
         if let Some(id) = self.domains.first_ring(dom) {
-            self.end_ring(id);
+            self.end_ring(&id);
         }
     }
 
@@ -157,10 +154,10 @@ impl World {
         let Some(id) = self.sends.take_first(dom) else {
             return;
         };
-        let doms = self.domains.noted(id);
-        self.domains.end_ring(id);
+        let doms = self.domains.noted(&id);
+        self.domains.end_ring(&id);
         if id.partner.is_any() {
-            mend_waits(&mut self.waits, &self.domains, doms.as_slice(), id);
+            take_off(&mut self.waits, doms.as_slice(), &id);
         }
     }
 
@@ -189,21 +186,21 @@ impl World {
             ≡ length (ids_of self.old.waits dom) - 1 }
     {
         if let Some(id) = self.waits.take_first(dom) {
-            self.domains.forget_notice(id, dom);
+            self.domains.forget_notice(&id, dom);
         }
     }
 
     // Ends a ring, and takes it off the lists.
-    fn end_ring(&mut self, id: RingId)
-        ensures state { self.new.state ≡ ring_ended self.old.state id }
+    fn end_ring(&mut self, id: &RingId)
+        ensures state { self.new.state ≡ ring_ended self.old.state id.now }
         ensures sends { AreNoLonger self.old.sends self.new.sends }
         ensures waits { AreNoLonger self.old.waits self.new.waits }
     {
         let doms = self.domains.noted(id);
         self.domains.end_ring(id);
-        mend_sends(&mut self.sends, &self.domains, id);
+        self.sends.remove(id.partner, *id);
         if id.partner.is_any() {
-            mend_waits(&mut self.waits, &self.domains, doms.as_slice(), id);
+            take_off(&mut self.waits, doms.as_slice(), id);
         }
     }
 }

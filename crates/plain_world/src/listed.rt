@@ -7,9 +7,10 @@ ghost use Rattle.argo_model.specs.Rules.Fit.{is_fit};
 ghost use Rattle.flat_world.specs.Domain.{registers};
 ghost use Rattle.flat_world.specs.World.{IsYoung};
 
-use crate::mends::{mend_sends, mend_wait, mend_waits};
+use crate::by_id::id_of;
+use crate::mends::{keep_if, take_off};
 use crate::world::World;
-use argo_base::{DomId, NoMemory, RingId};
+use argo_base::{DomId, NoMemory};
 use argo_model::Outcome;
 use flat_live::{Offer, Registration};
 use std::alloc::Global;
@@ -30,17 +31,14 @@ impl World {
             ≡ record { outcome = o; state = self.new.state }) }
         ensures err { OnErr result (self.new.state ≡ self.old.state) }
     {
-        let id = RingId {
-            owner: dom,
-            port: r.key.port,
-            partner: r.key.partner,
-        };
+        let id = id_of(dom, r.key);
         self.sends.add(alloc, id.partner, id)?;
         let change = self.domains.register(alloc, dom, generation, r);
-        mend_sends(&mut self.sends, &self.domains, id);
+        let stands = self.domains.stands(&id);
+        keep_if(&mut self.sends, id.partner, &id, stands);
         let change = change?;
         if id.partner.is_any() {
-            mend_waits(&mut self.waits, &self.domains, change.signals.as_slice(), id);
+            take_off(&mut self.waits, change.signals.as_slice(), &id);
         }
         Ok(change.outcome)
     }
@@ -61,7 +59,7 @@ impl World {
         let id = self.domains.next_ring(dom, serial);
         let change = self.domains.sweep(alloc, dom, generation, serial)?;
         if id.partner.is_any() {
-            mend_waits(&mut self.waits, &self.domains, change.signals.as_slice(), id);
+            take_off(&mut self.waits, change.signals.as_slice(), &id);
         }
         Ok(change.outcome)
     }
@@ -91,7 +89,8 @@ impl World {
         }
         self.waits.add(alloc, dom, id)?;
         let outcome = self.domains.deliver(generation, to, to_port, sent);
-        mend_wait(&mut self.waits, &self.domains, dom, id);
+        let waits = self.domains.is_noted(&id, dom);
+        keep_if(&mut self.waits, dom, &id, waits);
         outcome
     }
 
@@ -119,7 +118,8 @@ impl World {
         }
         self.waits.add(alloc, dom, id)?;
         let outcome = self.domains.query(dom, generation, to, to_port, need);
-        mend_wait(&mut self.waits, &self.domains, dom, id);
+        let waits = self.domains.is_noted(&id, dom);
+        keep_if(&mut self.waits, dom, &id, waits);
         outcome
     }
 }

@@ -11,6 +11,7 @@ ghost use Rattle.flat_world.specs.Domain.{registers};
 ghost use Rattle.flat_world.specs.World.{IsYoung};
 ghost use Rattle.plain_world.specs.Found.{id_in, swept};
 ghost use Rattle.plain_world.specs.Touches.{Touches};
+ghost use Rattle.state_laws.specs.Valid.{IsValid};
 
 use crate::domains::Domains;
 use argo_base::{DomId, Errno, NoMemory};
@@ -73,6 +74,7 @@ impl Domains {
         r: Registration,
     ) -> Result<Change, NoMemory>
         requires fit { IsTrue (is_fit (registers r)) }
+        requires valid { IsValid self.old }
         requires young { IsYoung (2 ^ 62) self.old }
         ensures ok { IfOk result
             (λ c. act (Vcpu dom generation) (registers r) self.old
