@@ -6,7 +6,7 @@ use Rattle.std.specs.BTreeMap.{is_at}
 use Rattle.std.proofs.lemmas.Bool.{false≢true}
 use Rattle.std.proofs.lemmas.Bool.Decides.{nat_tests}
 use Rattle.argo_base.specs.Match.{key_cmp, id_cmp, key_in, key_of, match_of, wildcard}
-use Rattle.argo_base.specs.Notices.{is_busy, noted, withdrawn, size_of}
+use Rattle.argo_base.specs.Notices.{Notices, is_busy, noted, withdrawn, size_of}
 use Rattle.argo_base.specs.Slots.{fits, is_too_big}
 use Rattle.argo_base.specs.declared.errno.Errno.{Errno}
 use Rattle.argo_base.specs.declared.errno.Errno.TheVariants.{Srch, Exist, NoDev, ConnRefused, MsgSize, Again, Busy, Fault as EFault}
@@ -23,7 +23,7 @@ use Rattle.argo_model.specs.Rules.Deliver.{Offer, offer, offer_load, offer_to_ma
 use Rattle.argo_model.specs.Rules.Destroy.{create, change_all, next_domain}
 use Rattle.argo_model.specs.Rules.Effects.{Change, change_in, refuse_if, refused, answered, leaving, lifted, after}
 use Rattle.argo_model.specs.Rules.Puts.{put_into, after_put}
-use Rattle.argo_model.specs.Rules.Query.{query_match, query_life, query_domain, query_ring, request, no_answer}
+use Rattle.argo_model.specs.Rules.Query.{query_match, query_life, query_domain, query_ring, Request, request, no_answer}
 use Rattle.argo_model.specs.Rules.Register.{own_ring, has_number}
 use Rattle.argo_model.specs.Rules.RingBytes.{PagedRing, paged, set_paged, with_notices, free}
 use Rattle.argo_model.specs.Rules.State.{State, Domain, Live, Ring, domain_of, set_domain, life_in, live_of, is_alive, change_found, has_page}
@@ -154,7 +154,7 @@ notes_self : (s : State) (id : RingId) (dom : ℕ) → Notes s s id dom
 notes_self s id dom = record { stands = λ x. refl; notices = λ x d h. refl }
 
 -- a change of a ring that leaves the notices of all others
-NotesRing : ℕ → Ring → Change PagedRing → Type 0
+abbrev NotesRing : ℕ → Ring → Change PagedRing → Type 0
 NotesRing dom r c = IfSome c.left (λ p. (q : ℕ) → (dom == q) ≡ false → size_of p.ring.notices q ≡ size_of r.notices q)
 
 module _ (s : State) (to : ℕ) (dom : ℕ) (id : RingId) where
@@ -263,11 +263,14 @@ deliver_notes s d g port to to_port kind load =
 
 -- ---- questions
 
+abbrev asked_of : Request → Notices
+asked_of r = r.notices
+
 query_notes_ring : (p : PagedRing) (key : RingKey) (d need : ℕ) → NotesRing d p.ring (query_ring p key d need)
 query_notes_ring p key d need q apart = by (is_too_big p.ring.len need) (fits (free p) need) (is_busy p.ring.notices d) where
   by : (big fit busy : Bool)
-      → size_of (if big then record { flag = 16; notices = p.ring.notices } else if fit then record { flag = 8; notices = withdrawn p.ring.notices d }
-      else if busy then record { flag = 32; notices = p.ring.notices } else record { flag = 0; notices = noted p.ring.notices d need }).notices q ≡ size_of p.ring.notices q
+      → size_of (asked_of (if big then record { flag = 16; notices = p.ring.notices } else if fit then record { flag = 8; notices = withdrawn p.ring.notices d }
+      else if busy then record { flag = 32; notices = p.ring.notices } else record { flag = 0; notices = noted p.ring.notices d need })) q ≡ size_of p.ring.notices q
   by true fit busy = refl
   by false true busy = withdrawn_other d p.ring.notices q apart
   by false false true = refl

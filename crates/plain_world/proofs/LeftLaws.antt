@@ -55,7 +55,7 @@ change_cases P s o f none some = by (domain_of s o) refl where
   by None here = subst P (sym (ap (change_found s o (change_life f)) here)) (none (ap (λ (y : Option Domain). option_and_then (λ (x : Domain). x.life) y) here))
   by (Some x) here = life x here x.life refl
 
-fit_of : (s : State) (o : ℕ) (x : Domain) (live : Live) → IsValid s → domain_of s o ≡ Some x → x.life ≡ Some live → IsLive (is_alive s) live
+pub fit_of : (s : State) (o : ℕ) (x : Domain) (live : Live) → IsValid s → domain_of s o ≡ Some x → x.life ≡ Some live → IsLive (is_alive s) live
 fit_of s o x live v here lives = subst (λ (l : Option Live). IfSome l (IsLive (is_alive s))) lives (fit_found (is_alive s) s o x here v.lives)
 
 found_at : (s : State) (id : RingId) (x : Domain) (live : Live) → domain_of s id.owner ≡ Some x → x.life ≡ Some live → ring_at s id ≡ own_ring live (key_in id)

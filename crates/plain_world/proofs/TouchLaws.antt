@@ -1,12 +1,13 @@
 -- Laws of acts that touch one ring of a domain: a sweep, and a registration.
-use Rattle.std.proofs.Common.{◌≡◌, ℕ, ◌<◌, Bool, true, false, ◌==◌, ◌&&◌, ◌||◌, not, IsTrue, IfSome, List, [], ◌∷◌, length, filter, nat_le, is_some, unwrap_or, if◌then◌else◌, Option, Some, None, option_map, refl, sym, ap, ◌∙◌, subst, arith}
+use Rattle.std.proofs.Common.{◌≡◌, ℕ, ◌<◌, Bool, true, false, ◌==◌, ◌&&◌, ◌||◌, not, cond, IsTrue, IfSome, List, [], ◌∷◌, length, filter, nat_le, is_some, unwrap_or, if◌then◌else◌, Option, Some, None, option_map, refl, sym, ap, ◌∙◌, subst, arith}
 use Rattle.std.specs.Map.{lookup, set_value}
 use Rattle.std.specs.BTreeMap.{is_at}
 use Rattle.std.proofs.lemmas.Bool.{false≢true}
-use Rattle.argo_base.specs.Match.{key_cmp, key_of, wildcard}
+use Rattle.argo_base.specs.Match.{key_cmp, key_in, key_of, wildcard}
 use Rattle.argo_base.specs.Notices.{Notices, size_of, doms_of, never_fits, fits_now}
 use Rattle.argo_base.specs.declared.errno.Errno.{Errno}
 use Rattle.argo_base.specs.declared.errno.Errno.TheVariants.{Exist, NoSpc, Inval, NoDev}
+use Rattle.argo_base.specs.declared.ring_key.RingId.{RingId}
 use Rattle.argo_base.specs.declared.ring_key.RingKey.{RingKey}
 use Rattle.argo_model.specs.declared.action.Action.TheVariants.{Sweep}
 use Rattle.argo_model.specs.declared.scripts.Actor.TheVariants.{Vcpu}
@@ -21,14 +22,22 @@ use Rattle.argo_model.specs.Rules.Sweep.{next_ring, sweep_found, sweep_ring, swe
 use Rattle.argo_model.specs.declared.action.Outcome.TheVariants.{Done}
 use Rattle.flat_live.specs.ByKey.{has_notice}
 use Rattle.flat_world.specs.Domain.{sweep_if_live}
-use Rattle.plain_world.specs.Found.{id_in, rings_in, rings_of, next_key, swept_of, swept}
+use Rattle.plain_world.specs.Found.{id_in, rings_in, rings_of, stands, next_key, swept_of, swept}
 use Rattle.plain_world.specs.Touches.{Touches}
+use Rattle.plain_world.proofs.ActLaws.{acts_by, seen}
 use Rattle.plain_world.proofs.NoticeLaws.{kept_others, none_left, key_set_other, key_set_same, key_put_other, key_put_same}
 use Rattle.plain_world.proofs.RingLaws.{TouchesLive, touches_self, touches_same, touches, live_found}
 use Rattle.state_laws.specs.Each.{Each, EachTwo}
 use Rattle.state_laws.specs.Valid.{IsLive, IsRing, IsValid}
 use Rattle.state_laws.proofs.Domains.{fit_found}
 use Rattle.state_laws.proofs.Lives.{key_same, key_self, In, each_in, lookup_in, next_in, chosen}
+
+unset : {K X : Type 0} (test : K → Bool) (es : List (K × X)) (w : X) → lookup test es ≡ None → set_value test es w ≡ es
+unset test [] w none = refl
+unset {K} {X} test (e ∷ es) w none = by (test e.0) none (unset test es w) where
+  by : (b : Bool) → cond b (Some e.1) (lookup test es) ≡ None → (lookup test es ≡ None → set_value test es w ≡ es) → cond b ((e.0, w) ∷ es) (e ∷ set_value test es w) ≡ e ∷ es
+  by true none rest = cc
+  by false none rest = ap (λ r. e ∷ r) (rest none)
 
 abbrev Rises : Notices → Type 0
 Rises ns = EachTwo (λ (a b : ℕ × ℕ). a.0 < b.0) ns
@@ -58,32 +67,32 @@ went_out out live key r p found rises is =
 
 -- ---- a sweep
 
+module _ (s : State) (d serial : ℕ) (v : IsValid s) (x : Domain) (live : Live) (here : domain_of s d ≡ Some x) (lives : x.life ≡ Some live) where
+  fit : IsLive (is_alive s) live
+  fit = subst (λ (o : Option Live). IfSome o (IsLive (is_alive s))) lives (fit_found (is_alive s) s d x here v.lives)
+
+  key_is : (e : RingKey × Ring) → next_ring serial live.rings ≡ Some e → next_key s d serial ≡ e.0
+  key_is e is =
+      ap (λ l. unwrap_or (option_map (λ (e : RingKey × Ring). e.0) (next_ring serial (rings_in l))) (key_of 0 wildcard)) (live_found s d x here ∙ lives)
+      ∙ ap (λ o. unwrap_or (option_map (λ (e : RingKey × Ring). e.0) o) (key_of 0 wildcard)) is
+
+  next : (o : Option (RingKey × Ring)) → next_ring serial live.rings ≡ o → Touches s (change_in s d (sweep_found live o)).state (id_in d (next_key s d serial)) (sweep_found live o).signals
+  next None is = touches_same s (id_in d (next_key s d serial))
+  next (Some e) is =
+      let among = next_in serial live.rings e is in
+      let found = lookup_in live.rings e fit.apart among in
+      let rises = (each_in (IsRing (is_alive s) live.bytes) e live.rings among fit.rings).one_notice_each in
+      let c : Change Live = sweep_found live (Some e) in
+      subst (λ k. Touches s (change_in s d c).state (id_in d k) c.signals) (sym (key_is e is))
+      (touches s d x live here lives c e.0 c.signals (went_out (fits_now (free (paged live.bytes e.1))) live e.0 e.1 (record { ring = record e.1 { notices = filter (λ n. not (fits_now (free (paged live.bytes e.1)) n)) e.1.notices }; own = (paged live.bytes e.1).own }) found rises refl))
+
+  on : (b : Bool) → Touches s (change_in s d (refuse_if (not b) NoDev (sweep_found live (next_ring serial live.rings)))).state (id_in d (next_key s d serial))
+      (refuse_if (not b) NoDev (sweep_found live (next_ring serial live.rings))).signals
+  on true = next (next_ring serial live.rings) refl
+  on false = touches_same s (id_in d (next_key s d serial))
+
 pub sweep_touches : (s : State) (d g serial : ℕ) → IsValid s → Touches s (act (Vcpu d g) (Sweep serial) s).state (id_in d (next_key s d serial)) (swept s d g serial)
 sweep_touches s d g serial v = there (domain_of s d) refl where
-  module _ (x : Domain) (live : Live) (here : domain_of s d ≡ Some x) (lives : x.life ≡ Some live) where
-    fit : IsLive (is_alive s) live
-    fit = subst (λ (o : Option Live). IfSome o (IsLive (is_alive s))) lives (fit_found (is_alive s) s d x here v.lives)
-
-    key_is : (e : RingKey × Ring) → next_ring serial live.rings ≡ Some e → next_key s d serial ≡ e.0
-    key_is e is =
-        ap (λ l. unwrap_or (option_map (λ (e : RingKey × Ring). e.0) (next_ring serial (rings_in l))) (key_of 0 wildcard)) (live_found s d x here ∙ lives)
-        ∙ ap (λ o. unwrap_or (option_map (λ (e : RingKey × Ring). e.0) o) (key_of 0 wildcard)) is
-
-    next : (o : Option (RingKey × Ring)) → next_ring serial live.rings ≡ o → Touches s (change_in s d (sweep_found live o)).state (id_in d (next_key s d serial)) (sweep_found live o).signals
-    next None is = touches_same s (id_in d (next_key s d serial))
-    next (Some e) is =
-        let among = next_in serial live.rings e is in
-        let found = lookup_in live.rings e fit.apart among in
-        let rises = (each_in (IsRing (is_alive s) live.bytes) e live.rings among fit.rings).one_notice_each in
-        let c : Change Live = sweep_found live (Some e) in
-        subst (λ k. Touches s (change_in s d c).state (id_in d k) c.signals) (sym (key_is e is))
-        (touches s d x live here lives c e.0 c.signals (went_out (fits_now (free (paged live.bytes e.1))) live e.0 e.1 (record { ring = record e.1 { notices = filter (λ n. not (fits_now (free (paged live.bytes e.1)) n)) e.1.notices }; own = (paged live.bytes e.1).own }) found rises refl))
-
-    on : (b : Bool) → Touches s (change_in s d (refuse_if (not b) NoDev (sweep_found live (next_ring serial live.rings)))).state (id_in d (next_key s d serial))
-        (refuse_if (not b) NoDev (sweep_found live (next_ring serial live.rings))).signals
-    on true = next (next_ring serial live.rings) refl
-    on false = touches_same s (id_in d (next_key s d serial))
-
   lives_in : (x : Domain) (live : Live) → life_in g x ≡ Some live → x.life ≡ Some live
   lives_in x live h = by (x.generation == g) h where
     by : (b : Bool) → (if b then x.life else None) ≡ Some live → x.life ≡ Some live
@@ -93,11 +102,39 @@ sweep_touches s d g serial v = there (domain_of s d) refl where
   life : (x : Domain) → domain_of s d ≡ Some x → (l : Option Live) → life_in g x ≡ l
       → Touches s (act_if_live s d x l (Sweep serial)).state (id_in d (next_key s d serial)) (sweep_if_live x l serial).signals
   life x here None is = touches_same s (id_in d (next_key s d serial))
-  life x here (Some live) is = on x live here (lives_in x live is) x.on
+  life x here (Some live) is = on s d serial v x live here (lives_in x live is) x.on
 
   there : (o : Option Domain) → domain_of s d ≡ o → Touches s (act_if_there s d g o (Sweep serial)).state (id_in d (next_key s d serial)) (swept_of g serial o)
   there None here = touches_same s (id_in d (next_key s d serial))
   there (Some x) here = life x here (life_in g x) refl
+
+-- and every ring stands where it stood
+pub sweep_stands : (s : State) (d g serial : ℕ) (y : RingId) → stands (act (Vcpu d g) (Sweep serial) s).state y ≡ stands s y
+sweep_stands s d g serial y = acts_by (λ t. stands t y ≡ stands s y) s d g (Sweep serial) refl (λ x live here lives. on x live here lives x.on) where
+  put : (live : Live) (key : RingKey) (p : PagedRing) (r : Ring) (k : RingKey) → lookup (is_at (key_cmp key)) live.rings ≡ Some r → is_some (own_ring (set_paged live key p) k) ≡ is_some (own_ring live k)
+  put live key p r k found = by (is_at (key_cmp key) k) refl where
+    by : (b : Bool) → is_at (key_cmp key) k ≡ b → is_some (own_ring (set_paged live key p) k) ≡ is_some (own_ring live k)
+    by true hit =
+        let same = key_same key k hit in
+        ap (λ k. is_some (own_ring (set_paged live key p) k)) (sym same) ∙ ap is_some (key_set_same key live.rings p.ring r found) ∙ ap is_some (sym found) ∙ ap (λ k. is_some (own_ring live k)) same
+    by false apart = ap is_some (key_set_other key live.rings p.ring k apart)
+
+  absent : (live : Live) (key : RingKey) (p : PagedRing) (k : RingKey) → lookup (is_at (key_cmp key)) live.rings ≡ None → is_some (own_ring (set_paged live key p) k) ≡ is_some (own_ring live k)
+  absent live key p k none = ap (λ rs. is_some (lookup (is_at (key_cmp k)) rs)) (unset (is_at (key_cmp key)) live.rings p.ring none)
+
+  any : (live : Live) (key : RingKey) (p : PagedRing) (k : RingKey) (o : Option Ring) → lookup (is_at (key_cmp key)) live.rings ≡ o → is_some (own_ring (set_paged live key p) k) ≡ is_some (own_ring live k)
+  any live key p k None is = absent live key p k is
+  any live key p k (Some r) is = put live key p r k is
+
+  next : (x : Domain) (live : Live) → domain_of s d ≡ Some x → x.life ≡ Some live → (o : Option (RingKey × Ring)) → stands (change_in s d (sweep_found live o)).state y ≡ stands s y
+  next x live here lives None = refl
+  next x live here lives (Some e) =
+      seen is_some s d x live (sweep_found live (Some e)) y here lives
+      (λ own. any live e.0 (after (paged live.bytes e.1) (sweep_ring (paged live.bytes e.1))) (key_in y) (lookup (is_at (key_cmp e.0)) live.rings) refl)
+
+  on : (x : Domain) (live : Live) → domain_of s d ≡ Some x → x.life ≡ Some live → (b : Bool) → stands (change_in s d (refuse_if (not b) NoDev (sweep_found live (next_ring serial live.rings)))).state y ≡ stands s y
+  on x live here lives true = next x live here lives (next_ring serial live.rings)
+  on x live here lives false = refl
 
 -- ---- a registration
 

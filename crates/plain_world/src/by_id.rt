@@ -71,7 +71,7 @@ impl Domains {
     {
         let live = self.live(dom)?;
         let key = live.first_ring()?;
-        Some(id_of(dom, key))
+        Some(id_of(dom, &key))
     }
 
     /// The ring that a domain sweeps next after a serial; where it has none, one that does not stand.
@@ -86,7 +86,7 @@ impl Domains {
             Some(live) => live.next_ring(serial).unwrap_or(none),
             None => none,
         };
-        id_of(dom, key)
+        id_of(dom, &key)
     }
 
     /// The ring that a sender meets at a port, if it meets one: the ring for this sender, else the wildcard ring.
@@ -97,14 +97,14 @@ impl Domains {
             port,
             partner: sender,
         };
-        if self.stands(&id_of(to, own)) {
-            return id_of(to, own);
+        if self.stands(&id_of(to, &own)) {
+            return id_of(to, &own);
         }
         let any = RingKey {
             port,
             partner: DomId::ANY,
         };
-        id_of(to, any)
+        id_of(to, &any)
     }
 
     /// Ends a ring, where it stands.
@@ -145,8 +145,8 @@ impl Domains {
 }
 
 /// The id of a domain's ring.
-pub(crate) fn id_of(owner: DomId, key: RingKey) -> RingId
-    ensures { result ≡ id_in owner key }
+pub(crate) fn id_of(owner: DomId, key: &RingKey) -> RingId
+    ensures { result ≡ id_in owner key.now }
 {
     RingId {
         owner,

@@ -44,7 +44,7 @@ impl World {
         if !on {
             return Outcome::Refused(Errno::NoDev);
         }
-        let id = id_of(dom, key);
+        let id = id_of(dom, &key);
         if !self.domains.stands(&id) {
             return Outcome::Refused(Errno::NoEnt);
         }

@@ -5,20 +5,20 @@ ghost use Rattle.argo_model.specs.Runs.Final.{final_domain, final_life};
 ghost use Rattle.flat_world.specs.Shown.{are_shown};
 
 use crate::domain::Domain;
+use crate::domains::Domains;
 use argo_base::{DomId, NoMemory};
 use argo_model::{FinalDomain, FinalDomains, FinalRings};
 use std::alloc::Global;
-use std::collections::BTreeMap;
 
 /// A row for each domain.
 pub(crate) fn finals_of(
     alloc: Global,
-    domains: BTreeMap<DomId, Domain>,
+    domains: Domains,
 ) -> Result<FinalDomains, NoMemory>
-    requires { IsTrue (are_shown domains.entries) }
-    ensures { IfOk result (λ finals. finals ≡ map final_domain domains.entries) }
+    requires { IsTrue (are_shown domains) }
+    ensures { IfOk result (λ finals. finals ≡ map final_domain domains) }
 {
-    let mut domains = domains;
+    let Domains { mut domains } = domains;
     let mut finals = FinalDomains::new(alloc);
     while let Some((id, domain)) = domains.pop_first() {
         finals.push(domain_of(alloc, id, domain)?)?;

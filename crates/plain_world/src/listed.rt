@@ -31,7 +31,7 @@ impl World {
             ≡ record { outcome = o; state = self.new.state }) }
         ensures err { OnErr result (self.new.state ≡ self.old.state) }
     {
-        let id = id_of(dom, r.key);
+        let id = id_of(dom, &r.key);
         self.sends.add(alloc, id.partner, id)?;
         let change = self.domains.register(alloc, dom, generation, r);
         let stands = self.domains.stands(&id);

@@ -86,7 +86,7 @@ impl PlainWorld {
         requires { steps_of self.now.totals < 2 ^ 32 - 1 }
         ensures { IfOk result (λ domains. domains ≡ closed_domains self.now.state) }
     {
-        self.world.domains.closed(self.alloc)
+        self.world.closed(self.alloc)
     }
 
     /// What a report shows of the domains, and the totals of each section. Where memory runs out, the world is lost.
@@ -101,7 +101,7 @@ impl PlainWorld {
             alloc,
             ..
         } = self;
-        let domains = finals_of(alloc, world.domains.domains)?;
+        let domains = finals_of(alloc, world.into_domains())?;
         Ok((domains, TotalList::from_vec(totals)))
     }
 }

@@ -5,13 +5,15 @@ ghost use Rattle.argo_model.specs.Rules.Act.{act};
 ghost use Rattle.argo_model.specs.Rules.Destroy as ends;
 ghost use Rattle.argo_model.specs.Rules.Fit.{is_fit};
 ghost use Rattle.argo_model.specs.Rules.State as state;
+ghost use Rattle.argo_model.specs.Runs.Closed.{closed_domains};
 ghost use Rattle.flat_live.specs.Own.{is_own};
+ghost use Rattle.flat_world.specs.Shown.{are_shown};
 ghost use Rattle.flat_world.specs.World.{IsYoung, caller_on};
 ghost use Rattle.plain_world.specs.Own.{keeps_rings};
 
 use crate::domains::Domains;
 use argo_base::{DomId, NoMemory};
-use argo_model::{Action, DomainLine, Outcome};
+use argo_model::{Action, ClosedDomains, DomainLine, Outcome};
 use domain_lists::DomainLists;
 use std::alloc::Global;
 use std::marker::Model;
@@ -46,6 +48,22 @@ impl World {
             sends: DomainLists::new(alloc),
             waits: DomainLists::new(alloc),
         })
+    }
+
+    /// A row for each domain.
+    pub(crate) fn closed(&self, alloc: Global) -> Result<ClosedDomains, NoMemory>
+        requires { IsTrue (are_shown self.now.state) }
+        ensures { IfOk result (λ closed. closed ≡ closed_domains self.now.state) }
+    {
+        self.domains.closed(alloc)
+    }
+
+    /// The domains, without the lists.
+    pub(crate) fn into_domains(self) -> Domains
+        ensures { result ≡ self.state }
+    {
+        let World { domains, .. } = self;
+        domains
     }
 
     /// Whether a caller is on, where it lives in the generation that its section names.

@@ -5,6 +5,7 @@ use Rattle.argo_model.specs.Rules.Effects.{Change, change_in}
 use Rattle.flat_world.specs.Domain.{sweep_if_live, with_left}
 use Rattle.flat_live.proofs.LiveLaws.{in_any_case}
 use Rattle.flat_world.proofs.WorldLaws.{set_domain-same, changed, sweep_acts}
+use Rattle.plain_world.specs.Found.{swept_of}
 use Rattle.plain_world.proofs.domains.Domains.sweep.Goals as goal
 
 pub returns-in_err-change-clause-err : goal.returns-in_err-change-clause-err
@@ -37,3 +38,11 @@ returns-clause-ok c =
     ∙ ap (λ t. signal_all t c.in_ok-change.change.signals.items) (sym left)
     ∙ ap (signal_all (c.get_mut.follows.lender new).entries) (sym c.as_slice.ensures.value)
     ∙ sym c.signal_all.ensures)
+
+pub returns-clause-signals : goal.returns-clause-signals
+returns-clause-signals c =
+    let s = c.args.self.now in
+    let d = c.args.dom in
+    let x = c.in-Some.domain.now in
+    let there : domain_of s d ≡ Some x = ap (λ s. domain_of s d) (sym c.self.view_is) ∙ sym c.get_mut.ensures.value ∙ ap option_copied_mut c.in-Some.is in
+    c.in_ok-change.ensures.signals ∙ sym (ap (swept_of c.args.generation c.args.serial) there)
