@@ -121,9 +121,10 @@ impl World {
         ensures sends { AreNoLonger self.old.sends self.new.sends }
         ensures waits { AreNoLonger self.old.waits self.new.waits }
     {
-        if let Some(id) = self.domains.first_ring(dom) {
-            self.end_ring(&id);
-        }
+        let Some(id) = self.domains.first_ring(dom) else {
+            return;
+        };
+        self.end_ring(&id);
     }
 
     // Ends the rings that are for a domain: how many there were.
@@ -156,9 +157,10 @@ impl World {
         };
         let doms = self.domains.noted(&id);
         self.domains.end_ring(&id);
-        if id.partner.is_any() {
-            take_off(&mut self.waits, doms.as_slice(), &id);
+        if !id.partner.is_any() {
+            return;
         }
+        take_off(&mut self.waits, doms.as_slice(), &id);
     }
 
     // Ends the notices of a domain on wildcard rings: how many there were.
@@ -185,9 +187,10 @@ impl World {
         ensures count { length (ids_of self.new.waits dom)
             ≡ length (ids_of self.old.waits dom) - 1 }
     {
-        if let Some(id) = self.waits.take_first(dom) {
-            self.domains.forget_notice(&id, dom);
-        }
+        let Some(id) = self.waits.take_first(dom) else {
+            return;
+        };
+        self.domains.forget_notice(&id, dom);
     }
 
     // Ends a ring, and takes it off the lists.
@@ -199,8 +202,9 @@ impl World {
         let doms = self.domains.noted(id);
         self.domains.end_ring(id);
         self.sends.remove(id.partner, *id);
-        if id.partner.is_any() {
-            take_off(&mut self.waits, doms.as_slice(), id);
+        if !id.partner.is_any() {
+            return;
         }
+        take_off(&mut self.waits, doms.as_slice(), id);
     }
 }

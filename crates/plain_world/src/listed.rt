@@ -37,9 +37,10 @@ impl World {
         let stands = self.domains.stands(&id);
         keep_if(&mut self.sends, id.partner, &id, stands);
         let change = change?;
-        if id.partner.is_any() {
-            take_off(&mut self.waits, change.signals.as_slice(), &id);
+        if !id.partner.is_any() {
+            return Ok(change.outcome);
         }
+        take_off(&mut self.waits, change.signals.as_slice(), &id);
         Ok(change.outcome)
     }
 
@@ -58,9 +59,10 @@ impl World {
     {
         let id = self.domains.next_ring(dom, serial);
         let change = self.domains.sweep(alloc, dom, generation, serial)?;
-        if id.partner.is_any() {
-            take_off(&mut self.waits, change.signals.as_slice(), &id);
+        if !id.partner.is_any() {
+            return Ok(change.outcome);
         }
+        take_off(&mut self.waits, change.signals.as_slice(), &id);
         Ok(change.outcome)
     }
 
