@@ -150,7 +150,7 @@ pub record Notes (s t : State) (id : RingId) (dom : ℕ) : Type 0 where
   pub stands : (x : RingId) → stands t x ≡ stands s x
   pub notices : (x : RingId) (d : ℕ) → is_touched id (dom ∷ []) x d ≡ false → is_noted t x d ≡ is_noted s x d
 
-notes_self : (s : State) (id : RingId) (dom : ℕ) → Notes s s id dom
+pub notes_self : (s : State) (id : RingId) (dom : ℕ) → Notes s s id dom
 notes_self s id dom = record { stands = λ x. refl; notices = λ x d h. refl }
 
 -- a change of a ring that leaves the notices of all others

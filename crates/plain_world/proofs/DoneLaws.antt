@@ -93,16 +93,16 @@ not_waiting s id d v single apart = life (domain_of s id.owner) refl where
       let same = is_at_same d h.0 h.1 in
       absurd (false≢true (sym (ap (λ b. b || (id.partner == h.0)) single ∙ ap (λ q. id.partner == q) (sym same) ∙ apart) ∙ h.2.may_wait))
 
-  live : (x : Domain) → domain_of s id.owner ≡ Some x → (l : Option Live) → x.life ≡ l → has_notice (ring_in l (key_in id)) d ≡ false
-  live x here None is = refl
-  live x here (Some live) is = by (own_ring live (key_in id)) refl where
+  living : (x : Domain) → domain_of s id.owner ≡ Some x → (l : Option Live) → x.life ≡ l → has_notice (ring_in l (key_in id)) d ≡ false
+  living x here None is = refl
+  living x here (Some live) is = by (own_ring live (key_in id)) refl where
     by : (o : Option Ring) → own_ring live (key_in id) ≡ o → has_notice o d ≡ false
     by None none = refl
     by (Some r) found = noted (is_alive s) r (chosen (is_alive s) live (key_in id) r (fit_of s id.owner x live v here is) found).ring.notices (size_of r.notices d) refl
 
   life : (o : Option Domain) → domain_of s id.owner ≡ o → is_noted s id d ≡ false
   life None here = ap (λ (y : Option Domain). has_notice (ring_in (option_and_then (λ (x : Domain). x.life) y) (key_in id)) d) here
-  life (Some x) here = ap (λ l. has_notice (ring_in l (key_in id)) d) (live_found s id.owner x here) ∙ live x here x.life refl
+  life (Some x) here = ap (λ l. has_notice (ring_in l (key_in id)) d) (live_found s id.owner x here) ∙ living x here x.life refl
 
 -- empty lists name nothing
 unnamed : (lists : RingLists) (d : ℕ) (id : RingId) → ids_of lists d ≡ [] → names lists d id ≡ false

@@ -107,21 +107,21 @@ own_ended s id d own = subst (λ o. EndSame d (forget s d) (forget (change_domai
 
 -- ---- rings that are for the domain
 
+abbrev without_in : ℕ → RingKey × Ring → RingKey × Ring
+without_in d e = (e.0, ring_without d e.1)
+
 removed_for : (d : ℕ) (key : RingKey) (es : List (RingKey × Ring)) → (key.partner == d) ≡ true → ((k : RingKey) → is_at (key_cmp key) k ≡ true → key ≡ k)
     → rings_without d (remove_entry (is_at (key_cmp key)) es) ≡ rings_without d es
 removed_for d key [] for same = refl
 removed_for d key (e ∷ es) for same = by (is_at (key_cmp key) e.0) refl (removed_for d key es for same) where
-  f : RingKey × Ring → RingKey × Ring
-  f = λ e. (e.0, ring_without d e.1)
-
   by : (b : Bool) → is_at (key_cmp key) e.0 ≡ b → rings_without d (remove_entry (is_at (key_cmp key)) es) ≡ rings_without d es
       → rings_without d (cond b es (e ∷ remove_entry (is_at (key_cmp key)) es)) ≡ rings_without d (e ∷ es)
   by true is rest =
       let out : (e.0.partner == d) ≡ true = ap (λ (k : RingKey). k.partner == d) (sym (same e.0 is)) ∙ for in
-      ap (λ b. map (λ e. (e.0, ring_without d e.1)) (cond (not b) (e ∷ filter (λ e. not (e.0.partner == d)) es) (filter (λ e. not (e.0.partner == d)) es))) (sym out)
+      ap (λ b. map (without_in d) (cond (not b) (e ∷ filter (λ e. not (e.0.partner == d)) es) (filter (λ e. not (e.0.partner == d)) es))) (sym out)
   by false is rest = at (not (e.0.partner == d)) where
-    at : (b : Bool) → map (λ e. (e.0, ring_without d e.1)) (cond b (e ∷ filter (λ e. not (e.0.partner == d)) (remove_entry (is_at (key_cmp key)) es)) (filter (λ e. not (e.0.partner == d)) (remove_entry (is_at (key_cmp key)) es)))
-        ≡ map (λ e. (e.0, ring_without d e.1)) (cond b (e ∷ filter (λ e. not (e.0.partner == d)) es) (filter (λ e. not (e.0.partner == d)) es))
+    at : (b : Bool) → map (without_in d) (cond b (e ∷ filter (λ e. not (e.0.partner == d)) (remove_entry (is_at (key_cmp key)) es)) (filter (λ e. not (e.0.partner == d)) (remove_entry (is_at (key_cmp key)) es)))
+        ≡ map (without_in d) (cond b (e ∷ filter (λ e. not (e.0.partner == d)) es) (filter (λ e. not (e.0.partner == d)) es))
     at true = ap (λ r. (e.0, ring_without d e.1) ∷ r) rest
     at false = rest
 
@@ -141,8 +141,8 @@ set_without : (d : ℕ) (key : RingKey) (r : Ring) (es : List (RingKey × Ring))
     → rings_without d (set_value (is_at (key_cmp key)) es (ring_without d r)) ≡ rings_without d es
 set_without d key r [] found rises = refl
 set_without d key r (e ∷ es) found rises = by (is_at (key_cmp key) e.0) found (λ f. set_without d key r es f rises) where
-  at : (b : Bool) (h t u : List (RingKey × Ring)) → map (λ e. (e.0, ring_without d e.1)) h ≡ map (λ e. (e.0, ring_without d e.1)) t → map (λ e. (e.0, ring_without d e.1)) u ≡ map (λ e. (e.0, ring_without d e.1)) (filter (λ e. not (e.0.partner == d)) es)
-      → map (λ e. (e.0, ring_without d e.1)) (cond b h u) ≡ map (λ e. (e.0, ring_without d e.1)) (cond b t (filter (λ e. not (e.0.partner == d)) es))
+  at : (b : Bool) (h t u : List (RingKey × Ring)) → map (without_in d) h ≡ map (without_in d) t → map (without_in d) u ≡ map (without_in d) (filter (λ e. not (e.0.partner == d)) es)
+      → map (without_in d) (cond b h u) ≡ map (without_in d) (cond b t (filter (λ e. not (e.0.partner == d)) es))
   at true h t u same rest = same
   at false h t u same rest = rest
 
@@ -153,7 +153,7 @@ set_without d key r (e ∷ es) found rises = by (is_at (key_cmp key) e.0) found 
       let same : e.1 ≡ r = cc in
       let once : ring_without d (ring_without d r) ≡ ring_without d e.1 = ap (λ ns. record r { notices = ns }) (withdrawn_again r.notices d rises) ∙ ap (ring_without d) (sym same) in
       at (not (e.0.partner == d)) ((e.0, ring_without d r) ∷ filter (λ e. not (e.0.partner == d)) es) (e ∷ filter (λ e. not (e.0.partner == d)) es) (filter (λ e. not (e.0.partner == d)) es)
-      (ap (λ q. (e.0, q) ∷ map (λ e. (e.0, ring_without d e.1)) (filter (λ e. not (e.0.partner == d)) es)) once) refl
+      (ap (λ q. (e.0, q) ∷ map (without_in d) (filter (λ e. not (e.0.partner == d)) es)) once) refl
   by false found rest =
       at (not (e.0.partner == d)) (e ∷ filter (λ e. not (e.0.partner == d)) (set_value (is_at (key_cmp key)) es (ring_without d r))) (e ∷ filter (λ e. not (e.0.partner == d)) es)
       (filter (λ e. not (e.0.partner == d)) (set_value (is_at (key_cmp key)) es (ring_without d r)))

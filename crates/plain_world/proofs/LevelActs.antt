@@ -47,7 +47,7 @@ and_none : (a : Bool) → (a && false) ≡ false
 and_none true = refl
 and_none false = refl
 
-turned : (a b : ℕ) → (a == b) ≡ (b == a)
+pub turned : (a b : ℕ) → (a == b) ≡ (b == a)
 turned a b = by (a == b) (b == a) refl refl where
   both_ways : (a b : ℕ) → (a == b) ≡ true → (b == a) ≡ true
   both_ways a b h = grind (arith, nat_tests)
@@ -122,16 +122,16 @@ module _ (w : Levels) (t : State) (id : RingId) (doms : List ℕ) (touches : Tou
 
 pub few_at : (s : State) (id : RingId) → IsValid s → IfSome (ring_at s id) (λ r. length r.notices ≤ most_notices)
 few_at s id v = by (domain_of s id.owner) refl where
-  live : (x : Domain) → domain_of s id.owner ≡ Some x → (l : Option Live) → x.life ≡ l → IfSome (ring_in l (key_in id)) (λ r. length r.notices ≤ most_notices)
-  live x here None is = tt
-  live x here (Some live) is = at (own_ring live (key_in id)) refl where
+  living : (x : Domain) → domain_of s id.owner ≡ Some x → (l : Option Live) → x.life ≡ l → IfSome (ring_in l (key_in id)) (λ r. length r.notices ≤ most_notices)
+  living x here None is = tt
+  living x here (Some live) is = at (own_ring live (key_in id)) refl where
     at : (o : Option Ring) → own_ring live (key_in id) ≡ o → IfSome o (λ r. length r.notices ≤ most_notices)
     at None none = tt
     at (Some r) found = (chosen (is_alive s) live (key_in id) r (fit_of s id.owner x live v here is) found).ring.few_notices
 
   by : (o : Option Domain) → domain_of s id.owner ≡ o → IfSome (ring_at s id) (λ r. length r.notices ≤ most_notices)
   by None here = subst (λ (o : Option Ring). IfSome o (λ r. length r.notices ≤ most_notices)) (sym (ap (λ (y : Option Domain). ring_in (option_and_then (λ (x : Domain). x.life) y) (key_in id)) here)) tt
-  by (Some x) here = subst (λ (o : Option Ring). IfSome o (λ r. length r.notices ≤ most_notices)) (sym (ap (λ l. ring_in l (key_in id)) (live_found s id.owner x here))) (live x here x.life refl)
+  by (Some x) here = subst (λ (o : Option Ring). IfSome o (λ r. length r.notices ≤ most_notices)) (sym (ap (λ l. ring_in l (key_in id)) (live_found s id.owner x here))) (living x here x.life refl)
 
 module _ (w : Levels) (id : RingId) (level : AreLevel w) where
   pub sends_without : (new : RingLists) (dom : ℕ) → dom ≡ id.partner → ((d : ℕ) (x : RingId) → names new d x ≡ (names w.sends d x && not (is_pair dom id d x))) → AreSends (ring_ended w.state id) new
