@@ -194,3 +194,16 @@ level_notice w d id new level named off = record {
 
   wild : is_wildcard id.partner ≡ true
   wild = first (is_wildcard id.partner) (is_noted w.state id d) (sym (level.waits d id) ∙ named)
+
+-- ---- a ring that a send list names
+
+module _ (w : Levels) (d : ℕ) (id : RingId) (level : AreLevel w) (named : names w.sends d id ≡ true) where
+  first_of : (a b : Bool) → (a && b) ≡ true → a ≡ true
+  first_of true b h = refl
+  first_of false b h = h
+
+  pub sender_for : (id.partner == d) ≡ true
+  sender_for = first_of (id.partner == d) (stands w.state id) (sym (level.sends d id) ∙ named)
+
+  pub sender_is : d ≡ id.partner
+  sender_is = sym (eq_same id.partner d sender_for)

@@ -139,7 +139,7 @@ sweep_stands s d g serial y = acts_by (λ t. stands t y ≡ stands s y) s d g (S
 -- ---- a registration
 
 module _ (alive : ℕ → Bool) (live : Live) (fit : IsLive alive live) (key : RingKey) (len : ℕ) (pages : List ℕ) where
-  TouchesBy : Change Live → Type 0
+  abbrev pub TouchesBy : Change Live → Type 0
   TouchesBy c = TouchesLive live (after live c) key c.signals
 
   by_if : (test : Bool) (e : Errno) (c : Change Live) → TouchesBy c → TouchesBy (refuse_if test e c)

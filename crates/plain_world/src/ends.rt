@@ -175,7 +175,17 @@ impl World {
         for _ in 0..count {
             self.end_first_notice(dom);
         }
+        self.nothing_is_left(dom);
         count
+    }
+
+    // Where the lists of a domain name nothing, nothing is left to forget of it. It does nothing.
+    fn nothing_is_left(&self, dom: DomId)
+        requires rings { rings_of self.now.state dom ≡ [] }
+        requires sends { ids_of self.now.sends dom ≡ [] }
+        requires waits { ids_of self.now.waits dom ≡ [] }
+        ensures { rules.forget self.now.state dom ≡ self.now.state }
+    {
     }
 
     // Ends the first notice of a domain on a wildcard ring, if it has one.

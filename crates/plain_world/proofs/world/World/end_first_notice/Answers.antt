@@ -8,22 +8,22 @@ use Rattle.plain_world.proofs.LeftLaws.{none_noted}
 use Rattle.plain_world.proofs.LevelActs.{level_notice}
 use Rattle.plain_world.proofs.world.World.end_first_notice.Goals as goal
 
-pub invariant_of-self : goal.invariant_of-self
-invariant_of-self c =
+pub invariant_of-self-2 : goal.invariant_of-self-2
+invariant_of-self-2 c =
     let i = c.self.inside in
     let w : Levels = record { state = i.domains; sends = i.sends; waits = i.waits } in
     let P : State → Type 0 = λ s. AreLevel (record { state = s; sends = i.sends; waits = c.take_first.new.self }) in
     subst P (sym c.forget_notice.ensures) (level_notice w c.args.dom c.in-Some.id c.take_first.new.self c.self.invariant c.in-Some.ensures.taken c.in-Some.ensures.names)
 
-pub returns-in-Some-clause-rings : goal.returns-in-Some-clause-rings
-returns-in-Some-clause-rings c =
+pub returns-clause-rings : goal.returns-clause-rings
+returns-clause-rings c =
     let i = c.self.inside in
     let d = c.args.dom in
     ap (λ s. rings_of s d) c.forget_notice.ensures
     ∙ none_noted i.domains c.in-Some.id d d (ap (λ (w : Levels). rings_of w.state d) c.self.view_is ∙ c.requires)
 
-pub returns-in-Some-clause-same : goal.returns-in-Some-clause-same
-returns-in-Some-clause-same c =
+pub returns-clause-same : goal.returns-clause-same
+returns-clause-same c =
     let i = c.self.inside in
     let d = c.args.dom in
     ap (λ s. forget s d) c.forget_notice.ensures

@@ -4,6 +4,7 @@ use Rattle.argo_model.specs.declared.action.Action.TheVariants.{Sweep}
 use Rattle.argo_model.specs.declared.scripts.Actor.TheVariants.{Vcpu}
 use Rattle.argo_model.specs.Rules.Act.{act}
 use Rattle.argo_model.specs.Rules.State.{State}
+use Rattle.plain_world.specs.Found.{id_in, next_key}
 use Rattle.plain_world.specs.Levels.{Levels, AreLevel}
 use Rattle.plain_world.specs.Touches.{Touches}
 use Rattle.plain_world.proofs.LevelActs.{waits_off, waits_stay}
@@ -24,7 +25,7 @@ invariant_of-self-then-not-is_any c =
     let t = (act (Vcpu d g) a i.domains).state in
     let touches : Touches i.domains t id doms =
         subst (λ y. Touches i.domains t y doms) (sym c.next_ring-id.ensures)
-        (subst (λ ds. Touches i.domains t _ ds) (sym c.in_ok-change.ensures.signals) (sweep_touches i.domains d g c.args.serial c.self.invariant.valid)) in
+        (subst (λ ds. Touches i.domains t (id_in d (next_key i.domains d c.args.serial)) ds) (sym c.in_ok-change.ensures.signals) (sweep_touches i.domains d g c.args.serial c.self.invariant.valid)) in
     let P : State → Type 0 = λ s. AreLevel (record { state = s; sends = i.sends; waits = i.waits }) in
     subst P (ap (λ x. x.state) c.in_ok-change.ensures.ok) (record {
       valid = valid_fit (Vcpu d g) a i.domains refl c.self.invariant.valid;
@@ -44,7 +45,7 @@ invariant_of-self-2 c =
     let t = (act (Vcpu d g) a i.domains).state in
     let touches : Touches i.domains t id doms =
         subst (λ y. Touches i.domains t y doms) (sym c.next_ring-id.ensures)
-        (subst (λ ds. Touches i.domains t _ ds) (sym (c.as_slice.ensures.value ∙ c.in_ok-change.ensures.signals)) (sweep_touches i.domains d g c.args.serial c.self.invariant.valid)) in
+        (subst (λ ds. Touches i.domains t (id_in d (next_key i.domains d c.args.serial)) ds) (sym (c.as_slice.ensures.value ∙ c.in_ok-change.ensures.signals)) (sweep_touches i.domains d g c.args.serial c.self.invariant.valid)) in
     let P : State → Type 0 = λ s. AreLevel (record { state = s; sends = i.sends; waits = c.take_off.new.lists }) in
     subst P (ap (λ x. x.state) c.in_ok-change.ensures.ok) (record {
       valid = valid_fit (Vcpu d g) a i.domains refl c.self.invariant.valid;
