@@ -61,23 +61,24 @@ not_noted r d none = ap (λ ns. record r { notices = ns }) (removed_none (is_at 
   by None h = refl
   by (Some n) h = cc
 
+module _ (s : State) (d : ℕ) (for : (id : RingId) → stands s id ≡ true → (id.partner == d) ≡ false) (none : (id : RingId) → is_noted s id d ≡ false) (o : ℕ) (live : Live)
+    (lives : live_of s o ≡ Some live) (fit : IsLive (is_alive s) live) where
+  at : (e : RingKey × Ring) → In e live.rings → ring_at s (id_in o e.0) ≡ Some e.1
+  at e i = ap (λ l. ring_in l e.0) lives ∙ lookup_in live.rings e fit.apart i
+
+  rings_stay : rings_without d live.rings ≡ live.rings
+  rings_stay =
+      ap (map (λ (e : RingKey × Ring). (e.0, ring_without d e.1))) (filter_stays (λ (e : RingKey × Ring). not (e.0.partner == d)) live.rings (λ e i. ap not (for (id_in o e.0) (ap is_some (at e i)))))
+      ∙ map_stays (ring_without d) live.rings (λ e i. not_noted e.1 d (sym (ap (λ r. has_notice r d) (at e i)) ∙ none (id_in o e.0)))
+
 pub nothing_left : (s : State) (d : ℕ) → IsValid s → ((id : RingId) → stands s id ≡ true → (id.partner == d) ≡ false) → ((id : RingId) → is_noted s id d ≡ false) → forget s d ≡ s
 nothing_left s d v for none = map_stays (change_life (live_without d)) s (λ e i. domain e (domain_in s e v.one_domain_each i) e.1.life refl) where
-  module _ (o : ℕ) (live : Live) (lives : live_of s o ≡ Some live) (fit : IsLive (is_alive s) live) where
-    at : (e : RingKey × Ring) → In e live.rings → ring_at s (id_in o e.0) ≡ Some e.1
-    at e i = ap (λ l. ring_in l e.0) lives ∙ lookup_in live.rings e fit.apart i
-
-    rings : rings_without d live.rings ≡ live.rings
-    rings =
-        ap (map (λ (e : RingKey × Ring). (e.0, ring_without d e.1))) (filter_stays (λ (e : RingKey × Ring). not (e.0.partner == d)) live.rings (λ e i. ap not (for (id_in o e.0) (ap is_some (at e i)))))
-        ∙ map_stays (ring_without d) live.rings (λ e i. not_noted e.1 d (sym (ap (λ r. has_notice r d) (at e i)) ∙ none (id_in o e.0)))
-
   domain : (e : ℕ × Domain) → domain_of s e.0 ≡ Some e.1 → (l : Option Live) → e.1.life ≡ l → change_life (live_without d) e.1 ≡ e.1
   domain e here None is =
       ap (λ l. record e.1 { life = option_map (live_without d) l }) is ∙ ap (λ l. record e.1 { life = l }) (sym is)
   domain e here (Some live) is =
       ap (λ l. record e.1 { life = option_map (live_without d) l }) is
-      ∙ ap (λ rs. record e.1 { life = Some (record live { rings = rs }) }) (rings e.0 live (live_found s e.0 e.1 here ∙ is) (fit_of s e.0 e.1 live v here is))
+      ∙ ap (λ rs. record e.1 { life = Some (record live { rings = rs }) }) (rings_stay s d for none e.0 live (live_found s e.0 e.1 here ∙ is) (fit_of s e.0 e.1 live v here is))
       ∙ ap (λ l. record e.1 { life = l }) (sym is)
 
 -- nobody but its partner waits on a ring for one domain
