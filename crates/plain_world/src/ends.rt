@@ -179,13 +179,15 @@ impl World {
         count
     }
 
-    // Where the lists of a domain name nothing, nothing is left to forget of it. It does nothing.
-    fn nothing_is_left(&self, dom: DomId)
+    // Where the lists of a domain name nothing, nothing is left to forget of it: how many rings they name, which is none.
+    fn nothing_is_left(&self, dom: DomId) -> usize
         requires rings { rings_of self.now.state dom ≡ [] }
         requires sends { ids_of self.now.sends dom ≡ [] }
         requires waits { ids_of self.now.waits dom ≡ [] }
-        ensures { rules.forget self.now.state dom ≡ self.now.state }
+        ensures left { rules.forget self.now.state dom ≡ self.now.state }
+        ensures none { result ≡ 0 }
     {
+        self.sends.count(dom)
     }
 
     // Ends the first notice of a domain on a wildcard ring, if it has one.

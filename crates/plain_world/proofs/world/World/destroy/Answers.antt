@@ -17,4 +17,5 @@ invariant_of-self c =
     subst P (sym c.end_one.ensures)
     (level_gone w i.domains d c.self.invariant.valid (sym c.is_alive.ensures ∙ c.if-not-is_alive.false) c.self-2.invariant
     (ap (λ (w : Levels). rings_of w.state d) c.self-2.view_is ∙ v.ensures.rings)
-    (ap (λ (w : Levels). change_domain w.state d gone_domain) c.self-2.view_is ∙ v.ensures.same.gone))
+    (ap (λ (w : Levels). change_domain w.state d gone_domain) c.self-2.view_is ∙ v.ensures.same.gone
+    ∙ ap (λ (w : Levels). change_domain (forget w.state d) d gone_domain) (sym c.self.view_is)))

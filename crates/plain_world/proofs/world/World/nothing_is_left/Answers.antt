@@ -5,8 +5,8 @@ use Rattle.plain_world.specs.Levels.{Levels}
 use Rattle.plain_world.proofs.DoneLaws.{all_forgotten}
 use Rattle.plain_world.proofs.world.World.nothing_is_left.Goals as goal
 
-pub returns : goal.returns
-returns c =
+pub returns-clause-left : goal.returns-clause-left
+returns-clause-left c =
     let i = c.self.inside in
     let w : Levels = record { state = i.domains; sends = i.sends; waits = i.waits } in
     let d = c.args.dom in

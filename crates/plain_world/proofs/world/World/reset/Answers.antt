@@ -17,4 +17,5 @@ invariant_of-self c =
     subst P (sym c.reset_one.ensures)
     (level_reset w i.domains d c.self.invariant.valid (sym c.is_alive.ensures ∙ c.if-not-is_alive.false) c.self-2.invariant
     (ap (λ (w : Levels). rings_of w.state d) c.self-2.view_is ∙ v.ensures.rings)
-    (ap (λ (w : Levels). change_domain w.state d (change_life reset_live)) c.self-2.view_is ∙ v.ensures.same.reset))
+    (ap (λ (w : Levels). change_domain w.state d (change_life reset_live)) c.self-2.view_is ∙ v.ensures.same.reset
+    ∙ ap (λ (w : Levels). change_domain (forget w.state d) d (change_life reset_live)) (sym c.self.view_is)))
