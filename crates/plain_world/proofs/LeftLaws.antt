@@ -113,8 +113,8 @@ module _ (s : State) (id : RingId) where
         count x live here lives (Some r) found =
             let c = chosen (is_alive s) live (key_in id) r (fit_of s id.owner x live v here lives) found in
             let new : rings_of (change_in s id.owner (leaving Done (end_key id live))).state id.owner ≡ c.before ++ c.after =
-                ap (λ y. rings_of (change_found s id.owner (with_life (end_key id live)) y) id.owner) here
-                ∙ ap rings_in (live_here s id.owner (with_life (end_key id live) x) x here) ∙ c.without in
+            ap (λ y. rings_of (change_found s id.owner (with_life (end_key id live)) y) id.owner) here
+            ∙ ap rings_in (live_here s id.owner (with_life (end_key id live) x) x here) ∙ c.without in
             let old : rings_of s id.owner ≡ c.before ++ (key_in id, r) ∷ c.after = ap rings_in (live_found s id.owner x here ∙ lives) ∙ c.whole in
             let a = ap length new in
             let b = ap length old in

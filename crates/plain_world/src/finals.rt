@@ -11,10 +11,7 @@ use argo_model::{FinalDomain, FinalDomains, FinalRings};
 use std::alloc::Global;
 
 /// A row for each domain.
-pub(crate) fn finals_of(
-    alloc: Global,
-    domains: Domains,
-) -> Result<FinalDomains, NoMemory>
+pub(crate) fn finals_of(alloc: Global, domains: Domains) -> Result<FinalDomains, NoMemory>
     requires { IsTrue (are_shown domains) }
     ensures { IfOk result (λ finals. finals ≡ map final_domain domains) }
 {

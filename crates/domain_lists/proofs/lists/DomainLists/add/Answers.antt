@@ -33,9 +33,9 @@ returns-in-Some-clause-ok c =
     let now : IsWith s d new (c.get_mut.follows.lender new).entries = λ q. ap (λ l. ids_of l q) (c.get_mut.follows.holds new).0 ∙ is_set d new s x there q in
     let old : ids_of s d ≡ x = ap (λ o. unwrap_or o []) there in
     λ q y.
-      names_added s (c.get_mut.follows.lender new).entries d new now c.args.id
-      (λ z. ap (λ (l : List RingId). has_id l z) c.in_ok-add.ensures.ok ∙ has_added x c.args.id z ∙ ap (λ l. is_at (id_cmp c.args.id) z || has_id l z) (sym old)) q y
-      ∙ ap (λ l. is_pair d c.args.id q y || names l q y) c.self.view_is
+    names_added s (c.get_mut.follows.lender new).entries d new now c.args.id
+    (λ z. ap (λ (l : List RingId). has_id l z) c.in_ok-add.ensures.ok ∙ has_added x c.args.id z ∙ ap (λ l. is_at (id_cmp c.args.id) z || has_id l z) (sym old)) q y
+    ∙ ap (λ l. is_pair d c.args.id q y || names l q y) c.self.view_is
 
 pub returns-clause-ok : goal.returns-clause-ok
 returns-clause-ok c =
@@ -46,6 +46,6 @@ returns-clause-ok c =
     let now : IsWith s d new c.insert.new.self.entries = λ q. ap (λ l. ids_of l q) (c.in_ok-insert.ensures.entries ∙ ap (λ (m : BTreeMap ℕ RingIdSet). insert_entry nat_cmp m.entries d new) c.get_mut.follows.holds-at-none) ∙ is_put d new s q in
     let old : ids_of s d ≡ [] = ap (λ o. unwrap_or o []) none in
     λ q y.
-      names_added s c.insert.new.self.entries d new now c.args.id
-      (λ z. ap (λ (l : List RingId). has_id l z) (c.in_ok-add-2.ensures.ok ∙ ap (λ l. insert_key id_cmp l c.args.id) c.new-ids.ensures) ∙ has_added [] c.args.id z ∙ ap (λ l. is_at (id_cmp c.args.id) z || has_id l z) (sym old)) q y
-      ∙ ap (λ l. is_pair d c.args.id q y || names l q y) c.self.view_is
+    names_added s c.insert.new.self.entries d new now c.args.id
+    (λ z. ap (λ (l : List RingId). has_id l z) (c.in_ok-add-2.ensures.ok ∙ ap (λ l. insert_key id_cmp l c.args.id) c.new-ids.ensures) ∙ has_added [] c.args.id z ∙ ap (λ l. is_at (id_cmp c.args.id) z || has_id l z) (sym old)) q y
+    ∙ ap (λ l. is_pair d c.args.id q y || names l q y) c.self.view_is

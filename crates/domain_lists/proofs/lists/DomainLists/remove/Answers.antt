@@ -17,9 +17,9 @@ returns-in_default-clause-names c =
     let d = c.args.dom in
     let none : lookup (is_at (nat_cmp d)) s ≡ None = sym c.get_mut.ensures.value ∙ ap option_copied_mut c.in_default.is in
     λ q y.
-      ap (λ (m : BTreeMap ℕ RingIdSet). names m.entries q y) c.get_mut.follows.holds-at-none
-      ∙ names_absent s d c.args.id (ap (λ o. unwrap_or o []) none) q y
-      ∙ ap (λ l. names l q y && not (is_pair d c.args.id q y)) c.self.view_is
+    ap (λ (m : BTreeMap ℕ RingIdSet). names m.entries q y) c.get_mut.follows.holds-at-none
+    ∙ names_absent s d c.args.id (ap (λ o. unwrap_or o []) none) q y
+    ∙ ap (λ l. names l q y && not (is_pair d c.args.id q y)) c.self.view_is
 
 pub returns-in_default-clause-lengths : goal.returns-in_default-clause-lengths
 returns-in_default-clause-lengths c =
@@ -37,9 +37,9 @@ returns-clause-names c =
     let now : IsWith s d new (c.get_mut.follows.lender new).entries = λ q. ap (λ l. ids_of l q) (c.get_mut.follows.holds new).0 ∙ is_set d new s x there q in
     let old : ids_of s d ≡ x = ap (λ o. unwrap_or o []) there in
     λ q y.
-      names_removed s (c.get_mut.follows.lender new).entries d new now c.args.id
-      (λ z. c.take_out.ensures.names z ∙ ap (λ l. has_id l z && not (is_at (id_cmp c.args.id) z)) (sym old)) q y
-      ∙ ap (λ l. names l q y && not (is_pair d c.args.id q y)) c.self.view_is
+    names_removed s (c.get_mut.follows.lender new).entries d new now c.args.id
+    (λ z. c.take_out.ensures.names z ∙ ap (λ l. has_id l z && not (is_at (id_cmp c.args.id) z)) (sym old)) q y
+    ∙ ap (λ l. names l q y && not (is_pair d c.args.id q y)) c.self.view_is
 
 pub returns-clause-lengths : goal.returns-clause-lengths
 returns-clause-lengths c =

@@ -13,6 +13,6 @@ doms-requires c =
     let key = c.args.key in
     let r : Ring = c.in-Some.ring.now in
     let found : own_ring c.args.self.now key ≡ Some r =
-        ap (λ (l : Live). own_ring l key) (sym c.self.view_is) ∙ sym c.get.ensures.value ∙ ap option_copied c.in-Some.is in
+    ap (λ (l : Live). own_ring l key) (sym c.self.view_is) ∙ sym c.get.ensures.value ∙ ap option_copied c.in-Some.is in
     let P : Option Ring → Type 0 = λ o. IfSome o (λ (r : Ring). length r.notices ≤ most_notices) in
     subst (λ (r : Ring). length r.notices ≤ most_notices) (sym c.ring.view_is) (subst P found c.requires.few)

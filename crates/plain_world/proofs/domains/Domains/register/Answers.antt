@@ -87,14 +87,14 @@ returns-clause-ended c =
     let own : Change Live = register_own caller.live r.key r.len r.pages r.fail_exist in
     let own_is : register_if_live x.life r.key r.len r.pages r.fail_exist ≡ own = ap (λ life. register_if_live life r.key r.len r.pages r.fail_exist) same in
     let state : (change_in s d own).state ≡ c.signal_all.new.self =
-        ap (λ y. y.state) (changed s d x own there)
-        ∙ ap (λ y. signal_all (set_domain s d (with_left x y)) own.signals) (ap (λ y. y.left) (sym own_is))
-        ∙ ap (λ ds. signal_all (set_domain s d (with_left x (register_if_live x.life r.key r.len r.pages r.fail_exist).left)) ds) (ap (λ y. y.signals) (sym own_is))
-        ∙ ap (λ y. signal_all (set_domain s d y) (register_if_live x.life r.key r.len r.pages r.fail_exist).signals) (sym e.left)
-        ∙ ap (signal_all (set_domain s d new)) (sym e.signals)
-        ∙ ap (λ t. signal_all t c.in_ok-change.change.signals.items) (sym left)
-        ∙ ap (signal_all (c.get_mut.follows.lender new).entries) (sym c.as_slice.ensures.value)
-        ∙ sym c.signal_all.ensures in
+    ap (λ y. y.state) (changed s d x own there)
+    ∙ ap (λ y. signal_all (set_domain s d (with_left x y)) own.signals) (ap (λ y. y.left) (sym own_is))
+    ∙ ap (λ ds. signal_all (set_domain s d (with_left x (register_if_live x.life r.key r.len r.pages r.fail_exist).left)) ds) (ap (λ y. y.signals) (sym own_is))
+    ∙ ap (λ y. signal_all (set_domain s d y) (register_if_live x.life r.key r.len r.pages r.fail_exist).signals) (sym e.left)
+    ∙ ap (signal_all (set_domain s d new)) (sym e.signals)
+    ∙ ap (λ t. signal_all t c.in_ok-change.change.signals.items) (sym left)
+    ∙ ap (signal_all (c.get_mut.follows.lender new).entries) (sym c.as_slice.ensures.value)
+    ∙ sym c.signal_all.ensures in
     let signals : own.signals ≡ c.in_ok-change.change.signals.items = ap (λ y. y.signals) (sym own_is) ∙ sym e.signals in
     let fit = fit_of s d x caller.live c.requires.valid there same in
     subst (λ ds. Touches s c.signal_all.new.self (id_in d r.key) ds) signals

@@ -55,8 +55,8 @@ invariant_of-self-2 c =
     let t = c.register-change.new.self in
     let doms = c.as_slice.result.now in
     let touches : Touches i.domains t id doms =
-        subst (λ ds. Touches i.domains t id ds) (sym c.as_slice.ensures.value)
-        (subst (λ y. Touches i.domains t y c.in_ok-change.change.signals.items) (sym c.id_of-id.ensures) c.in_ok-change.ensures.ended) in
+    subst (λ ds. Touches i.domains t id ds) (sym c.as_slice.ensures.value)
+    (subst (λ y. Touches i.domains t y c.in_ok-change.change.signals.items) (sym c.id_of-id.ensures) c.in_ok-change.ensures.ended) in
     record {
       valid = subst IsValid (ap (λ x. x.state) c.in_ok-change.ensures.ok) (valid_fit (Vcpu d g) a i.domains c.requires.fit c.self.invariant.valid);
       sends = sends_in w t id doms touches c.self.invariant c.add.new.self c.keep_if.new.lists c.stands-stands.result c.in_ok-add.ensures.ok c.keep_if.ensures.names c.stands-stands.ensures;

@@ -24,8 +24,8 @@ invariant_of-self-then-not-is_any c =
     let doms = c.in_ok-change.change.signals.items in
     let t = (act (Vcpu d g) a i.domains).state in
     let touches : Touches i.domains t id doms =
-        subst (λ y. Touches i.domains t y doms) (sym c.next_ring-id.ensures)
-        (subst (λ ds. Touches i.domains t (id_in d (next_key i.domains d c.args.serial)) ds) (sym c.in_ok-change.ensures.signals) (sweep_touches i.domains d g c.args.serial c.self.invariant.valid)) in
+    subst (λ y. Touches i.domains t y doms) (sym c.next_ring-id.ensures)
+    (subst (λ ds. Touches i.domains t (id_in d (next_key i.domains d c.args.serial)) ds) (sym c.in_ok-change.ensures.signals) (sweep_touches i.domains d g c.args.serial c.self.invariant.valid)) in
     let P : State → Type 0 = λ s. AreLevel (record { state = s; sends = i.sends; waits = i.waits }) in
     subst P (ap (λ x. x.state) c.in_ok-change.ensures.ok) (record {
       valid = valid_fit (Vcpu d g) a i.domains refl c.self.invariant.valid;
@@ -44,8 +44,8 @@ invariant_of-self-2 c =
     let doms = c.as_slice.result.now in
     let t = (act (Vcpu d g) a i.domains).state in
     let touches : Touches i.domains t id doms =
-        subst (λ y. Touches i.domains t y doms) (sym c.next_ring-id.ensures)
-        (subst (λ ds. Touches i.domains t (id_in d (next_key i.domains d c.args.serial)) ds) (sym (c.as_slice.ensures.value ∙ c.in_ok-change.ensures.signals)) (sweep_touches i.domains d g c.args.serial c.self.invariant.valid)) in
+    subst (λ y. Touches i.domains t y doms) (sym c.next_ring-id.ensures)
+    (subst (λ ds. Touches i.domains t (id_in d (next_key i.domains d c.args.serial)) ds) (sym (c.as_slice.ensures.value ∙ c.in_ok-change.ensures.signals)) (sweep_touches i.domains d g c.args.serial c.self.invariant.valid)) in
     let P : State → Type 0 = λ s. AreLevel (record { state = s; sends = i.sends; waits = c.take_off.new.lists }) in
     subst P (ap (λ x. x.state) c.in_ok-change.ensures.ok) (record {
       valid = valid_fit (Vcpu d g) a i.domains refl c.self.invariant.valid;
