@@ -15,7 +15,8 @@ use argo_model::{
 use std::alloc::Global;
 use std::marker::Model;
 
-/// The world of a script, in which ends of domains go by lists. It tells its state: contracts see that, who the sections are, and what each has done.
+/// The world of a script, in which ends of domains go by lists. It tells its state: contracts see that, who the sections are, and
+/// what each has done.
 #[derive(Drop)]
 pub struct PlainWorld {
     world: World,
