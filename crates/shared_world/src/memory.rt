@@ -1,0 +1,214 @@
+//! Fetches and puts of the caller's own pages, wherever they stand.
+ghost use Rattle.std.specs.Prelude.{◌≡◌, ◌+◌, ◌<◌, ◌≤◌, length, IsTrue, IfOk, OnErr};
+ghost use Rattle.argo_base.specs.Limits.{page_bytes};
+ghost use Rattle.argo_model.specs.declared.action.Action.TheVariants.{Fetch, Put};
+ghost use Rattle.argo_model.specs.Rules.Outcomes.{is_fetched, is_outcome_of};
+ghost use Rattle.argo_board.specs.Board.{most_steps};
+ghost use Rattle.lock_tokens.specs.Ranks.{IsAboveAll};
+ghost use Rattle.shared_world.specs.Passes.{stepped};
+
+use crate::journal::append;
+use crate::party::Party;
+use crate::pass::WorldPass;
+use crate::pause::Pause;
+use crate::plan::Plan;
+use crate::world::World;
+use argo_base::{Bytes, NoMemory, PAGE_BYTES, Piece, slots};
+use argo_board::{Board, FlagChange};
+use argo_model::Outcome;
+use guest_pages::Private;
+use lock_tokens::Gate;
+use ring_core::Ring;
+use std::alloc::Global;
+use std::sync::Wait;
+use std::sync::ledger::Ledger;
+
+impl<A: Plan, B: Ledger, C: Ledger, P: Pause> World<A, B, C, P> {
+    /// Fetches a piece of the caller's memory, from the ring that its page stands in or from the private pages.
+    pub(crate) fn fetch<R: Wait>(
+        &self,
+        rt: &R,
+        pass: &mut WorldPass<A, B, C>,
+        caller: &Party<'_>,
+        from: Piece,
+    ) -> Result<Outcome, NoMemory>
+        requires free { IsAboveAll 2 pass.old.held }
+        requires few { pass.old.tally.steps < most_steps }
+        requires in_page { from.off + from.n ≤ page_bytes }
+        ensures can { IfOk result (λ o. IsTrue (is_outcome_of (Fetch from.page from.off from.n) o)) }
+        ensures pass { IfOk result (λ o. pass.new ≡ stepped pass.old o) }
+        ensures err { OnErr result (pass.new ≡ pass.old) }
+    {
+        if from.page >= u64::from(caller.pages) {
+            return self.note(rt, pass, Outcome::Fault);
+        }
+        let rings = caller.live.rings.read(rt, &mut pass.held);
+        let outcome = match rings.value().home_of(from.page) {
+            Some((ring, place)) => self.fetch_from_ring(rt, pass, ring, place, from),
+            None => self.fetch_private(rt, pass, &caller.live.private, from),
+        };
+        rings.release(&mut pass.held);
+        outcome
+    }
+
+    // Fetches a piece of a page that stands in a ring.
+    fn fetch_from_ring<R: Wait>(
+        &self,
+        rt: &R,
+        pass: &mut WorldPass<A, B, C>,
+        ring: &Gate<Ring, 3>,
+        place: u32,
+        from: Piece,
+    ) -> Result<Outcome, NoMemory> {
+        let ring = ring.lock(rt, &mut pass.held);
+        let outcome = match read_ring(self.alloc, ring.value(), place, from) {
+            Ok(outcome) => self.note(rt, pass, outcome),
+            Err(refused) => Err(refused),
+        };
+        ring.release(&mut pass.held);
+        outcome
+    }
+
+    // Fetches a piece of a private page.
+    fn fetch_private<R: Wait>(
+        &self,
+        rt: &R,
+        pass: &mut WorldPass<A, B, C>,
+        private: &Gate<Private, 6>,
+        from: Piece,
+    ) -> Result<Outcome, NoMemory> {
+        let private = private.lock(rt, &mut pass.held);
+        let outcome = match read_private(private.value(), from) {
+            Ok(outcome) => self.note(rt, pass, outcome),
+            Err(refused) => Err(refused),
+        };
+        private.release(&mut pass.held);
+        outcome
+    }
+
+    /// Puts bytes into a piece of the caller's memory, in the ring that its page stands in or in the private pages.
+    pub(crate) fn put<R: Wait>(
+        &self,
+        rt: &R,
+        pass: &mut WorldPass<A, B, C>,
+        caller: &Party<'_>,
+        to: Piece,
+        bytes: &[u8],
+    ) -> Result<Outcome, NoMemory> {
+        if to.page >= u64::from(caller.pages) {
+            return self.note(rt, pass, Outcome::Fault);
+        }
+        let rings = caller.live.rings.read(rt, &mut pass.held);
+        let outcome = match rings.value().home_of(to.page) {
+            Some((ring, place)) => self.put_into_ring(rt, pass, ring, (place, to.off), bytes),
+            None => self.put_private(rt, pass, &caller.live.private, to, bytes),
+        };
+        rings.release(&mut pass.held);
+        outcome
+    }
+
+    // Puts bytes into a page that stands in a ring.
+    fn put_into_ring<R: Wait>(
+        &self,
+        rt: &R,
+        pass: &mut WorldPass<A, B, C>,
+        ring: &Gate<Ring, 3>,
+        (place, off): (u32, u32),
+        bytes: &[u8],
+    ) -> Result<Outcome, NoMemory> {
+        let mut ring = ring.lock(rt, &mut pass.held);
+        let mut board = self.board.lock(rt, &mut pass.held);
+        let to = (ring.value_mut(), place, off);
+        let outcome = put_ring(board.value_mut(), pass, to, bytes);
+        board.release(&mut pass.held);
+        ring.release(&mut pass.held);
+        outcome
+    }
+
+    // Puts bytes into a private page.
+    fn put_private<R: Wait>(
+        &self,
+        rt: &R,
+        pass: &mut WorldPass<A, B, C>,
+        private: &Gate<Private, 6>,
+        to: Piece,
+        bytes: &[u8],
+    ) -> Result<Outcome, NoMemory> {
+        let mut private = private.lock(rt, &mut pass.held);
+        let mut board = self.board.lock(rt, &mut pass.held);
+        let outcome = put_page(board.value_mut(), pass, private.value_mut(), to, bytes);
+        board.release(&mut pass.held);
+        private.release(&mut pass.held);
+        outcome
+    }
+}
+
+// A copy of a piece of a ring's page. A place that is none of the ring's has no bytes.
+fn read_ring(
+    alloc: Global,
+    ring: &Ring,
+    place: u32,
+    from: Piece,
+) -> Result<Outcome, NoMemory>
+    requires { from.off + from.n ≤ page_bytes }
+    ensures { IfOk result (λ o. IsTrue (is_fetched from.n o)) }
+{
+    if place >= slots::page_count(ring.len()) {
+        return Ok(Outcome::Fault);
+    }
+    let mut bytes = vec![in alloc; 0u8; from.n as usize]?;
+    if from.n > 0 {
+        ring.read(place * PAGE_BYTES + from.off, bytes.as_mut_slice());
+    }
+    Ok(Outcome::Bytes(Bytes::from_vec(bytes)))
+}
+
+// A copy of a piece of a private page, if it is there.
+fn read_private(private: &Private, from: Piece) -> Result<Outcome, NoMemory>
+    requires { from.off + from.n ≤ page_bytes }
+    ensures { IfOk result (λ o. IsTrue (is_fetched from.n o)) }
+{
+    match private.read(from.page, from.off, from.n)? {
+        Some(bytes) => Ok(Outcome::Bytes(bytes)),
+        None => Ok(Outcome::Fault),
+    }
+}
+
+// Puts bytes into a ring's page, as a step. An empty put touches nothing.
+fn put_ring<A: Ledger, B: Ledger, C: Ledger>(
+    board: &mut Board<A, B, C>,
+    pass: &mut WorldPass<A, B, C>,
+    (ring, place, off): (&mut Ring, u32, u32),
+    bytes: &[u8],
+) -> Result<Outcome, NoMemory> {
+    board.reserve()?;
+    if place >= slots::page_count(ring.len()) {
+        return Ok(append(board, pass, Outcome::Fault, FlagChange::Keep));
+    }
+    if !bytes.is_empty() {
+        ring.write(place * PAGE_BYTES + off, bytes);
+    }
+    Ok(append(board, pass, Outcome::Done, FlagChange::Keep))
+}
+
+// Puts bytes into a private page, as a step.
+fn put_page<A: Ledger, B: Ledger, C: Ledger>(
+    board: &mut Board<A, B, C>,
+    pass: &mut WorldPass<A, B, C>,
+    private: &mut Private,
+    to: Piece,
+    bytes: &[u8],
+) -> Result<Outcome, NoMemory>
+    requires few { pass.old.tally.steps < most_steps }
+    requires in_page { to.off + length bytes.now ≤ page_bytes }
+    ensures pass { IfOk result (λ o. pass.new ≡ stepped pass.old o) }
+    ensures err { OnErr result (pass.new ≡ pass.old) }
+{
+    board.reserve()?;
+    let outcome = if private.write(to.page, to.off, bytes) {
+        Outcome::Done
+    } else {
+        Outcome::Fault
+    };
+    Ok(append(board, pass, outcome, FlagChange::Keep))
+}

@@ -1,0 +1,149 @@
+//! The rings of a domain, each behind its lock, and which page stands in which ring.
+ghost use Rattle.std.specs.Prelude.{◌≡◌, length, IsTrue, IfOk};
+ghost use Rattle.argo_base.specs.Slots.{is_legal, page_count};
+
+use argo_base::{NoMemory, RingId, RingKey};
+use guest_pages::{LendFault, PageRow, Private};
+use lock_tokens::Gate;
+use pending_list::Notices;
+use ring_core::Ring;
+use ring_space::{tx_word, write_tx};
+use ring_table::{InsertFault, Table};
+use std::alloc::Global;
+
+/// Where a page stands that is lent: in which ring, and at which place of its row.
+#[derive(Clone, Copy, Debug)]
+pub(crate) struct Home {
+    key: RingKey,
+    place: u32,
+}
+
+/// The ring table of a domain, and for each of its pages the ring in which it stands, if it stands in one.
+#[derive(Drop)]
+pub(crate) struct Rings {
+    pub(crate) table: Table<Gate<Ring, 3>>,
+    next_serial: u64,
+    homes: Vec<Option<Home>>,
+}
+
+impl Rings {
+    /// No rings, for a domain of so many pages.
+    pub(crate) fn new(alloc: Global, pages: u32) -> Result<Rings, NoMemory> {
+        Ok(Rings {
+            table: Table::new(alloc),
+            next_serial: 1,
+            homes: Vec::from_elem(alloc, None, pages as usize)?,
+        })
+    }
+
+    /// The ring in which a page stands, if it stands in one, and the page's place there.
+    pub(crate) fn home_of(&self, page: u64) -> Option<(&Gate<Ring, 3>, u32)> {
+        let home = (*self.homes.get(page as usize)?)?;
+        let row = self.table.find_exact(home.key)?;
+        Some((&row.value, home.place))
+    }
+
+    /// A ring, to be changed by whoever has the table for writing: then nobody has the ring's lock.
+    pub(crate) fn ring_mut(&mut self, key: RingKey) -> Option<&mut Ring> {
+        let gate = self.table.find_exact_mut(key)?;
+        Some(gate.get_mut())
+    }
+
+    /// Makes a ring with the next serial on these pages, under a key that has none. Where it cannot be put into the table, the pages come
+    /// back as they were.
+    pub(crate) fn make(
+        &mut self,
+        alloc: Global,
+        id: RingId,
+        len: u32,
+        row: PageRow,
+    ) -> Result<(), PageRow>
+        requires legal { IsTrue (is_legal len) }
+        requires pages { length row ≡ page_count len }
+    {
+        let word = tx_word(&row);
+        let ring = Ring::new(alloc, id, len, row);
+        match self
+            .table
+            .insert(id.key(), self.next_serial, Gate::new(ring))
+        {
+            Ok(()) => {
+                self.next_serial = self.next_serial.saturating_add(1);
+                self.settle(id.key());
+                Ok(())
+            }
+            Err(InsertFault::Full(gate) | InsertFault::NoMemory(gate)) => {
+                Err(unstarted(gate.into_inner(), word))
+            }
+        }
+    }
+
+    /// Registers a ring that stands anew, with another length or on other pages. The domains whose notices ended come back. Where the
+    /// pages cannot be lent, all stays.
+    pub(crate) fn restart(
+        &mut self,
+        key: RingKey,
+        len: u32,
+        private: &mut Private,
+        numbers: &[u64],
+    ) -> Result<argo_base::Ended, LendFault>
+        requires legal { IsTrue (is_legal len) }
+        requires counted { length numbers.now ≡ page_count len }
+    {
+        let Some(gate) = self.table.find_exact_mut(key) else {
+            return Err(LendFault::Pages);
+        };
+        let ring = gate.get_mut();
+        leave(&mut self.homes, ring.row());
+        let ended = ring.restart(len, private, numbers);
+        move_in(&mut self.homes, key, ring.row());
+        ended
+    }
+
+    /// Ends a ring: its pages become private again, and its notices come back.
+    pub(crate) fn end(&mut self, key: RingKey, private: &mut Private) -> Option<Notices> {
+        let gate = self.table.remove(key)?;
+        let (row, notices) = gate.into_inner().into_parts();
+        leave(&mut self.homes, &row);
+        private.give_back(row);
+        Some(notices)
+    }
+
+    // Notes where the pages of a ring stand.
+    fn settle(&mut self, key: RingKey) {
+        if let Some(gate) = self.table.find_exact_mut(key) {
+            move_in(&mut self.homes, key, gate.get_mut().row());
+        }
+    }
+}
+
+// The pages of a ring that has started and is not to be: as they were, with this tx word.
+fn unstarted(ring: Ring, word: u32) -> PageRow {
+    let (row, _) = ring.into_parts();
+    let mut row = row;
+    if row.count() > 0 {
+        write_tx(&mut row, word);
+    }
+    row
+}
+
+// Notes that the pages stand in the ring of this key.
+fn move_in(homes: &mut Vec<Option<Home>>, key: RingKey, row: &PageRow) {
+    for place in 0..row.count() {
+        if let Some(home) = homes.get_mut(row.number(place) as usize) {
+            *home = Some(Home {
+                key,
+                place: place as u32,
+            });
+        }
+    }
+}
+
+// Notes that the pages stand in no ring.
+fn leave(homes: &mut Vec<Option<Home>>, row: &PageRow) {
+    for place in 0..row.count() {
+        if let Some(home) = homes.get_mut(row.number(place) as usize) {
+            *home = None;
+        }
+    }
+}
