@@ -1,1 +1,98 @@
 //! One thread acts in a shared world, and the same actions in a plain one: every outcome and what is left in the end are the same.
+mod actions;
+mod same;
+mod scripts;
+
+use crate::{Blanks, Closed, NoPause, Plan, World, WorldPass};
+use actions::{Draws, Kind};
+use argo_base::NoMemory;
+use argo_model::{Access, Heard, Scripts};
+use flat_world::FlatWorld;
+use std::alloc::Global;
+use std::marker::Brand;
+use std::sync::Wait;
+use std::sync::ledger::{Blank, Ledger};
+use std::test::Fail;
+
+/// What came of a run in both worlds.
+#[derive(Drop)]
+struct Both {
+    /// The number of the first step whose outcomes differ.
+    differs: Option<u64>,
+    /// How many steps had each outcome, by its tag.
+    tags: [u64; 10],
+    /// The worlds that are left are the same.
+    same: bool,
+    closed: Closed,
+}
+
+// So many drawn steps in both worlds.
+fn run_both<A: Plan, B: Ledger, C: Ledger, R: Wait>(
+    rt: &R,
+    alloc: Global,
+    scripts: &Scripts,
+    blanks: Blanks,
+    (seed, steps): (u64, u64),
+) -> Result<Both, NoMemory> {
+    let mut flat = FlatWorld::new(alloc, scripts)?;
+    let (world, passes): (World<A, B, C, NoPause>, Vec<WorldPass<A, B, C>>) =
+        World::build(alloc, scripts, NoPause, blanks)?;
+    let mut passes = passes;
+    let mut draws = Draws::new(seed);
+    let mut differs = None;
+    let mut tags = [0u64; 10];
+    for step in 0..steps {
+        let v = draws.below(passes.len() as u64) as usize;
+        let kind = Kind::of(scripts.parts.get(v).actor);
+        let mut again = draws;
+        let first = draws.action(alloc, kind)?;
+        let second = again.action(alloc, kind)?;
+        let plain = flat.act(v as u32, first)?;
+        let shared = world.act(rt, &mut passes[v], second)?;
+        let tag = crate::short::short_of(&shared).tag as usize;
+        if tag < 10 {
+            tags[tag] = tags[tag].wrapping_add(1);
+        }
+        if differs.is_none() && !same::outcomes(&plain, &shared) {
+            differs = Some(step);
+        }
+    }
+    let closed = world.close(passes, Heard::new(alloc))?;
+    let same = same::domains(&flat.closed()?, &closed.domains);
+    Ok(Both {
+        differs,
+        tags,
+        same,
+        closed,
+    })
+}
+
+#[test]
+fn drawn_steps_are_those_of_the_plain_world(rt: HostRuntime) -> Result<(), Fail> {
+    let alloc = rt.alloc();
+    let scripts = scripts::five_domains(alloc)?;
+    let mut tags = [0u64; 10];
+    for seed in 0..200 {
+        let steps = 20 + 10 * seed;
+        let blanks = Blanks {
+            room: Blank::new(10),
+            sends: Blank::new(10),
+            loads: Blank::new(10),
+        };
+        let both = run_both::<Brand, Brand, Brand, HostRuntime>(
+            &rt,
+            alloc,
+            &scripts,
+            blanks,
+            (seed, steps),
+        )?;
+        assert_eq!(rt; both.differs, None, "seed {seed}");
+        assert!(rt; both.same, "seed {seed}");
+        assert_eq!(rt; both.closed.entries.len() as u64, steps);
+        for (all, one) in tags.iter_mut().zip(both.tags.iter()) {
+            *all = all.wrapping_add(*one);
+        }
+    }
+    assert_eq!(rt; tags, [0; 10]);
+    Ok(())
+}
