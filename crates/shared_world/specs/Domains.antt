@@ -31,3 +31,9 @@ MayBeFound f d (Some x) = MayStand f d x
 -- the domains are those of the script, and each may stand as it does
 abbrev pub AreOf : Facts → List (ℕ × Standing) → Type 0
 AreOf f xs = (d : ℕ) → MayBeFound f d (lookup (is_at (nat_cmp d)) xs)
+
+-- what an action finds of a domain that is alive: it is one of the script's, on as its line says, with no page more than that gives
+pub record IsParty (f : Facts) (d : ℕ) (is_on : Bool) (count : ℕ) : Type 0 where
+  pub known : IsTrue (has_domain f.domains d)
+  pub on : is_on ≡ is_on_line f d
+  pub pages : (page : ℕ) → page < count → IsTrue (gives_page f d page)

@@ -1,5 +1,7 @@
 pub mod Closed
 pub mod Domains
+pub mod Ends
 pub mod Passes
+pub mod Plans
 pub mod Possible
 pub mod Whole

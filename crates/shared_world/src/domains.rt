@@ -1,8 +1,9 @@
 //! The domains of the world, as whoever has their lock finds them.
-ghost use Rattle.std.specs.Prelude.{ℕ, ◌≡◌, ◌<◌, IsTrue, IfSome, IfNone};
+ghost use Rattle.std.specs.Prelude.{◌≡◌, IsTrue, IfSome, IfNone};
 ghost use Rattle.argo_model.specs.declared.scripts.Actor.TheVariants.{Vcpu};
-ghost use Rattle.argo_model.specs.Rules.Possible.{facts_of, gives_page, is_on_line, may_be_away, may_be_gone};
+ghost use Rattle.argo_model.specs.Rules.Possible.{facts_of, may_be_away, may_be_gone};
 ghost use Rattle.argo_model.specs.Runs.Script.{has_domain};
+ghost use Rattle.shared_world.specs.Domains.{IsParty};
 
 use crate::domain::Domain;
 use crate::live::Live;
@@ -46,8 +47,7 @@ impl<A: Plan> Domains<A> {
     /// A domain, where it is alive.
     pub(crate) fn party(&self, dom: DomId) -> Option<Party<'_>>
         ensures id { IfSome result (λ p. p.id ≡ dom) }
-        ensures known { IfSome result (λ p. IsTrue (has_domain A.facts.domains dom)) }
-        ensures on { IfSome result (λ p. p.on ≡ is_on_line A.facts dom) }
+        ensures party { IfSome result (λ p. IsParty A.facts dom p.on p.pages) }
         ensures away { IfNone result (IsTrue (may_be_away A.facts dom)) }
     {
         let domain = self.domains.get(&dom)?;
@@ -67,9 +67,7 @@ impl<A: Plan> Domains<A> {
     pub(crate) fn caller(&self, dom: DomId, generation: u32) -> Option<Party<'_>>
         requires { IsTrue (has_domain A.facts.domains dom) }
         ensures id { IfSome result (λ p. (p.id ≡ dom) × (p.generation ≡ generation)) }
-        ensures on { IfSome result (λ p. p.on ≡ is_on_line A.facts dom) }
-        ensures pages { (page : ℕ) → IfSome result
-            (λ p. page < p.pages → IsTrue (gives_page A.facts dom page)) }
+        ensures party { IfSome result (λ p. IsParty A.facts dom p.on p.pages) }
         ensures gone { IfNone result (IsTrue (may_be_gone A.facts (Vcpu dom generation))) }
     {
         let party = self.party(dom)?;

@@ -1,7 +1,13 @@
 //! Domains that end, are reset, or are made anew. The domains are held for writing, so no lock that lies in them is taken.
-ghost use Rattle.std.specs.Prelude.{◌≡◌, ◌<◌, [], IsTrue, IfOk, OnErr};
+ghost use Rattle.std.specs.Prelude.{◌≡◌, ◌<◌, [], ◌∷◌, IsTrue, IfOk, OnErr};
+ghost use Rattle.argo_model.specs.declared.action.Outcome.TheVariants.{Done};
+ghost use Rattle.argo_model.specs.Rules.Outcomes.{is_outcome_of};
+ghost use Rattle.argo_model.specs.Rules.Possible.{is_destroyed, is_possible, may_be_gone};
+ghost use Rattle.argo_model.specs.Runs.Script.{is_known_actor};
 ghost use Rattle.argo_board.specs.Board.{most_steps};
+ghost use Rattle.shared_world.specs.Ends.{MayTurn, the_action};
 ghost use Rattle.shared_world.specs.Passes.{stepped};
+ghost use Rattle.shared_world.specs.Possible.{may_end};
 
 use crate::domains::Domains;
 use crate::journal::append;
@@ -45,7 +51,16 @@ impl<A: Plan, B: Ledger, C: Ledger, P: Pause> World<A, B, C, P> {
         pass: &mut WorldPass<A, B, C>,
         actor: Actor,
         end: End,
-    ) -> Result<Outcome, NoMemory> {
+    ) -> Result<Outcome, NoMemory>
+        requires held { pass.old.held ≡ [] }
+        requires few { pass.old.tally.steps < most_steps }
+        requires known { IsTrue (is_known_actor A.facts.domains actor) }
+        requires ends { IsTrue (may_end A.facts (the_action end)) }
+        ensures possible { IfOk result
+            (λ o. IsTrue (is_possible A.facts actor (the_action end) o)) }
+        ensures pass { IfOk result (λ o. pass.new ≡ stepped pass.old o) }
+        ensures err { OnErr result (pass.new ≡ pass.old) }
+    {
         let mut part = self.domains.write(rt, &mut pass.held);
         let domains = part.value_mut();
         let outcome = if is_gone(domains, actor) {
@@ -64,7 +79,14 @@ impl<A: Plan, B: Ledger, C: Ledger, P: Pause> World<A, B, C, P> {
         pass: &mut WorldPass<A, B, C>,
         domains: &mut Domains<A>,
         end: End,
-    ) -> Result<Outcome, NoMemory> {
+    ) -> Result<Outcome, NoMemory>
+        requires held { pass.old.held ≡ 1 ∷ [] }
+        requires few { pass.old.tally.steps < most_steps }
+        requires ends { IsTrue (may_end A.facts (the_action end)) }
+        ensures can { IfOk result (λ o. IsTrue (is_outcome_of (the_action end) o)) }
+        ensures pass { IfOk result (λ o. pass.new ≡ stepped pass.old o) }
+        ensures err { OnErr result (pass.new ≡ pass.old) }
+    {
         let turn = match end {
             End::Destroy(dom) if domains.party(dom).is_none() => Err(Errno::Srch),
             End::Destroy(dom) => Ok(Turn::Destroyed(dom)),
@@ -89,7 +111,14 @@ impl<A: Plan, B: Ledger, C: Ledger, P: Pause> World<A, B, C, P> {
         pass: &mut WorldPass<A, B, C>,
         domains: &mut Domains<A>,
         turn: Turn,
-    ) -> Result<Outcome, NoMemory> {
+    ) -> Result<Outcome, NoMemory>
+        requires held { pass.old.held ≡ 1 ∷ [] }
+        requires few { pass.old.tally.steps < most_steps }
+        requires ends { MayTurn A.facts turn }
+        ensures done { IfOk result (λ o. o ≡ Done) }
+        ensures pass { IfOk result (λ o. pass.new ≡ stepped pass.old o) }
+        ensures err { OnErr result (pass.new ≡ pass.old) }
+    {
         let mut part = self.board.lock(rt, &mut pass.held);
         let outcome = ended(part.value_mut(), pass, domains, turn);
         part.release(&mut pass.held);
@@ -98,7 +127,10 @@ impl<A: Plan, B: Ledger, C: Ledger, P: Pause> World<A, B, C, P> {
 }
 
 // Whether the caller is gone. The control section never is.
-fn is_gone<A: Plan>(domains: &Domains<A>, actor: Actor) -> bool {
+fn is_gone<A: Plan>(domains: &Domains<A>, actor: Actor) -> bool
+    requires { IsTrue (is_known_actor A.facts.domains actor) }
+    ensures { IsTrue result → IsTrue (may_be_gone A.facts actor) }
+{
     match actor {
         Actor::Vcpu(dom, generation) => domains.caller(dom, generation).is_none(),
         Actor::Control => false,
@@ -111,7 +143,13 @@ fn ended<A: Plan, B: Ledger, C: Ledger>(
     pass: &mut WorldPass<A, B, C>,
     domains: &mut Domains<A>,
     turn: Turn,
-) -> Result<Outcome, NoMemory> {
+) -> Result<Outcome, NoMemory>
+    requires few { pass.old.tally.steps < most_steps }
+    requires ends { MayTurn A.facts turn }
+    ensures done { IfOk result (λ o. o ≡ Done) }
+    ensures pass { IfOk result (λ o. pass.new ≡ stepped pass.old o) }
+    ensures err { OnErr result (pass.new ≡ pass.old) }
+{
     board.reserve()?;
     let change = match turn {
         Turn::Destroyed(dom) => {
@@ -140,14 +178,18 @@ impl<A: Plan> Domains<A> {
     }
 
     // The domain is gone, with all that it has.
-    fn end_domain(&mut self, dom: DomId) {
+    fn end_domain(&mut self, dom: DomId)
+        requires { IsTrue (is_destroyed A.facts dom) }
+    {
         if let Some(domain) = self.domains.get_mut(&dom) {
             domain.life = None;
         }
     }
 
     // The domain is alive in its next generation. The count of generations stands still at its last number, which no script reaches.
-    fn begin_anew(&mut self, dom: DomId, live: Live) {
+    fn begin_anew(&mut self, dom: DomId, live: Live)
+        requires { IsTrue (is_destroyed A.facts dom) }
+    {
         if let Some(domain) = self.domains.get_mut(&dom) {
             domain.generation = domain.generation.saturating_add(1);
             domain.life = Some(live);
@@ -223,13 +265,10 @@ impl<A: Plan> Domains<A> {
         let Some(live) = self.live_mut(id.owner) else {
             return;
         };
-        let Some(notices) = live
+        let notices = live
             .rings
             .get_mut()
-            .end(id.key(), live.private.get_mut())
-        else {
-            return;
-        };
+            .end(id.key(), live.private.get_mut());
         self.unlist(id, &notices);
     }
 

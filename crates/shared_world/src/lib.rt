@@ -20,6 +20,7 @@ mod pass;
 mod pause;
 mod plan;
 mod registers;
+mod registration;
 mod rings;
 mod send;
 mod short;

@@ -10,13 +10,14 @@ use crate::plan::Plan;
 use crate::waiting::{is_noted, will_wait};
 use crate::world::World;
 use argo_base::{DomId, NoMemory, RingId};
+use argo_model::Outcome;
 use pending_list::Notices;
 use ring_core::Ring;
 use std::sync::Wait;
 use std::sync::ledger::Ledger;
 
 impl<A: Plan, B: Ledger, C: Ledger, P: Pause> World<A, B, C, P> {
-    /// Puts a ring into the list of its single partner.
+    /// Puts a ring into the list of its single partner. A wildcard ring has none.
     pub(crate) fn list_ring<R: Wait>(
         &self,
         rt: &R,
@@ -53,6 +54,24 @@ impl<A: Plan, B: Ledger, C: Ledger, P: Pause> World<A, B, C, P> {
         let mut sends = partner.live.sends.lock(rt, &mut pass.held);
         sends.value_mut().remove(id);
         sends.release(&mut pass.held);
+    }
+
+    /// Takes a ring off the list of its single partner again, where it was not made.
+    pub(crate) fn keep_listed<R: Wait>(
+        &self,
+        rt: &R,
+        pass: &mut WorldPass<A, B, C>,
+        domains: &Domains<A>,
+        id: RingId,
+        outcome: &Result<Outcome, NoMemory>,
+    )
+        requires { IsAboveAll 4 pass.old.held }
+        ensures { pass.new ≡ pass.old }
+    {
+        if let Ok(Outcome::Done) = outcome {
+            return;
+        }
+        self.unlist_ring(rt, pass, domains, id);
     }
 
     /// Puts a wildcard ring into the list of a domain that is to have a notice there, where it asks for room for so many bytes. It tells

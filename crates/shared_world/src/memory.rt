@@ -1,10 +1,12 @@
 //! Fetches and puts of the caller's own pages, wherever they stand.
-ghost use Rattle.std.specs.Prelude.{◌≡◌, ◌+◌, ◌<◌, ◌≤◌, length, IsTrue, IfOk, OnErr};
+ghost use Rattle.std.specs.Prelude.{◌≡◌, ◌+◌, ◌<◌, ◌≤◌, ◌||◌, [], ◌∷◌, length, IsTrue, IfOk, OnErr};
 ghost use Rattle.argo_base.specs.Limits.{page_bytes};
 ghost use Rattle.argo_model.specs.declared.action.Action.TheVariants.{Fetch, Put};
-ghost use Rattle.argo_model.specs.Rules.Outcomes.{is_fetched, is_outcome_of};
+ghost use Rattle.argo_model.specs.declared.scripts.Actor.TheVariants.{Vcpu};
+ghost use Rattle.argo_model.specs.Rules.Outcomes.{is_done, is_fault, is_fetched};
+ghost use Rattle.argo_model.specs.Rules.Possible.{is_possible};
 ghost use Rattle.argo_board.specs.Board.{most_steps};
-ghost use Rattle.lock_tokens.specs.Ranks.{IsAboveAll};
+ghost use Rattle.shared_world.specs.Domains.{IsParty};
 ghost use Rattle.shared_world.specs.Passes.{stepped};
 
 use crate::journal::append;
@@ -23,6 +25,13 @@ use std::alloc::Global;
 use std::sync::Wait;
 use std::sync::ledger::Ledger;
 
+/// Bytes that are put into a page, from an offset on.
+#[derive(Clone, Copy)]
+pub(crate) struct Writing<'a> {
+    pub(crate) off: u32,
+    pub(crate) bytes: &'a [u8],
+}
+
 impl<A: Plan, B: Ledger, C: Ledger, P: Pause> World<A, B, C, P> {
     /// Fetches a piece of the caller's memory, from the ring that its page stands in or from the private pages.
     pub(crate) fn fetch<R: Wait>(
@@ -32,10 +41,13 @@ impl<A: Plan, B: Ledger, C: Ledger, P: Pause> World<A, B, C, P> {
         caller: &Party<'_>,
         from: Piece,
     ) -> Result<Outcome, NoMemory>
-        requires free { IsAboveAll 2 pass.old.held }
+        requires held { pass.old.held ≡ 1 ∷ [] }
         requires few { pass.old.tally.steps < most_steps }
         requires in_page { from.off + from.n ≤ page_bytes }
-        ensures can { IfOk result (λ o. IsTrue (is_outcome_of (Fetch from.page from.off from.n) o)) }
+        requires caller { IsParty A.facts caller.now.id caller.now.on caller.now.pages }
+        ensures possible { IfOk result
+            (λ o. IsTrue (is_possible A.facts (Vcpu caller.now.id caller.now.generation)
+            (Fetch from.page from.off from.n) o)) }
         ensures pass { IfOk result (λ o. pass.new ≡ stepped pass.old o) }
         ensures err { OnErr result (pass.new ≡ pass.old) }
     {
@@ -59,7 +71,14 @@ impl<A: Plan, B: Ledger, C: Ledger, P: Pause> World<A, B, C, P> {
         ring: &Gate<Ring, 3>,
         place: u32,
         from: Piece,
-    ) -> Result<Outcome, NoMemory> {
+    ) -> Result<Outcome, NoMemory>
+        requires held { pass.old.held ≡ 1 ∷ 2 ∷ [] }
+        requires few { pass.old.tally.steps < most_steps }
+        requires in_page { from.off + from.n ≤ page_bytes }
+        ensures can { IfOk result (λ o. IsTrue (is_fetched from.n o)) }
+        ensures pass { IfOk result (λ o. pass.new ≡ stepped pass.old o) }
+        ensures err { OnErr result (pass.new ≡ pass.old) }
+    {
         let ring = ring.lock(rt, &mut pass.held);
         let outcome = match read_ring(self.alloc, ring.value(), place, from) {
             Ok(outcome) => self.note(rt, pass, outcome),
@@ -76,7 +95,14 @@ impl<A: Plan, B: Ledger, C: Ledger, P: Pause> World<A, B, C, P> {
         pass: &mut WorldPass<A, B, C>,
         private: &Gate<Private, 6>,
         from: Piece,
-    ) -> Result<Outcome, NoMemory> {
+    ) -> Result<Outcome, NoMemory>
+        requires held { pass.old.held ≡ 1 ∷ 2 ∷ [] }
+        requires few { pass.old.tally.steps < most_steps }
+        requires in_page { from.off + from.n ≤ page_bytes }
+        ensures can { IfOk result (λ o. IsTrue (is_fetched from.n o)) }
+        ensures pass { IfOk result (λ o. pass.new ≡ stepped pass.old o) }
+        ensures err { OnErr result (pass.new ≡ pass.old) }
+    {
         let private = private.lock(rt, &mut pass.held);
         let outcome = match read_private(private.value(), from) {
             Ok(outcome) => self.note(rt, pass, outcome),
@@ -86,22 +112,32 @@ impl<A: Plan, B: Ledger, C: Ledger, P: Pause> World<A, B, C, P> {
         outcome
     }
 
-    /// Puts bytes into a piece of the caller's memory, in the ring that its page stands in or in the private pages.
+    /// Puts bytes into a page of the caller, in the ring that it stands in or among the private pages.
     pub(crate) fn put<R: Wait>(
         &self,
         rt: &R,
         pass: &mut WorldPass<A, B, C>,
         caller: &Party<'_>,
-        to: Piece,
-        bytes: &[u8],
-    ) -> Result<Outcome, NoMemory> {
-        if to.page >= u64::from(caller.pages) {
+        page: u64,
+        writing: Writing<'_>,
+    ) -> Result<Outcome, NoMemory>
+        requires held { pass.old.held ≡ 1 ∷ [] }
+        requires few { pass.old.tally.steps < most_steps }
+        requires in_page { writing.off + length writing.bytes.now ≤ page_bytes }
+        requires caller { IsParty A.facts caller.now.id caller.now.on caller.now.pages }
+        ensures possible { IfOk result
+            (λ o. IsTrue (is_possible A.facts (Vcpu caller.now.id caller.now.generation)
+            (Put page writing.entry.off writing.entry.bytes.now) o)) }
+        ensures pass { IfOk result (λ o. pass.new ≡ stepped pass.old o) }
+        ensures err { OnErr result (pass.new ≡ pass.old) }
+    {
+        if page >= u64::from(caller.pages) {
             return self.note(rt, pass, Outcome::Fault);
         }
         let rings = caller.live.rings.read(rt, &mut pass.held);
-        let outcome = match rings.value().home_of(to.page) {
-            Some((ring, place)) => self.put_into_ring(rt, pass, ring, (place, to.off), bytes),
-            None => self.put_private(rt, pass, &caller.live.private, to, bytes),
+        let outcome = match rings.value().home_of(page) {
+            Some((ring, place)) => self.put_into_ring(rt, pass, ring, place, writing),
+            None => self.put_private(rt, pass, &caller.live.private, page, writing),
         };
         rings.release(&mut pass.held);
         outcome
@@ -113,13 +149,19 @@ impl<A: Plan, B: Ledger, C: Ledger, P: Pause> World<A, B, C, P> {
         rt: &R,
         pass: &mut WorldPass<A, B, C>,
         ring: &Gate<Ring, 3>,
-        (place, off): (u32, u32),
-        bytes: &[u8],
-    ) -> Result<Outcome, NoMemory> {
+        place: u32,
+        writing: Writing<'_>,
+    ) -> Result<Outcome, NoMemory>
+        requires held { pass.old.held ≡ 1 ∷ 2 ∷ [] }
+        requires few { pass.old.tally.steps < most_steps }
+        requires in_page { writing.off + length writing.bytes.now ≤ page_bytes }
+        ensures can { IfOk result (λ o. IsTrue (is_done o || is_fault o)) }
+        ensures pass { IfOk result (λ o. pass.new ≡ stepped pass.old o) }
+        ensures err { OnErr result (pass.new ≡ pass.old) }
+    {
         let mut ring = ring.lock(rt, &mut pass.held);
         let mut board = self.board.lock(rt, &mut pass.held);
-        let to = (ring.value_mut(), place, off);
-        let outcome = put_ring(board.value_mut(), pass, to, bytes);
+        let outcome = put_ring(board.value_mut(), pass, ring.value_mut(), place, writing);
         board.release(&mut pass.held);
         ring.release(&mut pass.held);
         outcome
@@ -131,12 +173,19 @@ impl<A: Plan, B: Ledger, C: Ledger, P: Pause> World<A, B, C, P> {
         rt: &R,
         pass: &mut WorldPass<A, B, C>,
         private: &Gate<Private, 6>,
-        to: Piece,
-        bytes: &[u8],
-    ) -> Result<Outcome, NoMemory> {
+        page: u64,
+        writing: Writing<'_>,
+    ) -> Result<Outcome, NoMemory>
+        requires held { pass.old.held ≡ 1 ∷ 2 ∷ [] }
+        requires few { pass.old.tally.steps < most_steps }
+        requires in_page { writing.off + length writing.bytes.now ≤ page_bytes }
+        ensures can { IfOk result (λ o. IsTrue (is_done o || is_fault o)) }
+        ensures pass { IfOk result (λ o. pass.new ≡ stepped pass.old o) }
+        ensures err { OnErr result (pass.new ≡ pass.old) }
+    {
         let mut private = private.lock(rt, &mut pass.held);
         let mut board = self.board.lock(rt, &mut pass.held);
-        let outcome = put_page(board.value_mut(), pass, private.value_mut(), to, bytes);
+        let outcome = put_page(board.value_mut(), pass, private.value_mut(), page, writing);
         board.release(&mut pass.held);
         private.release(&mut pass.held);
         outcome
@@ -144,12 +193,7 @@ impl<A: Plan, B: Ledger, C: Ledger, P: Pause> World<A, B, C, P> {
 }
 
 // A copy of a piece of a ring's page. A place that is none of the ring's has no bytes.
-fn read_ring(
-    alloc: Global,
-    ring: &Ring,
-    place: u32,
-    from: Piece,
-) -> Result<Outcome, NoMemory>
+fn read_ring(alloc: Global, ring: &Ring, place: u32, from: Piece) -> Result<Outcome, NoMemory>
     requires { from.off + from.n ≤ page_bytes }
     ensures { IfOk result (λ o. IsTrue (is_fetched from.n o)) }
 {
@@ -178,15 +222,22 @@ fn read_private(private: &Private, from: Piece) -> Result<Outcome, NoMemory>
 fn put_ring<A: Ledger, B: Ledger, C: Ledger>(
     board: &mut Board<A, B, C>,
     pass: &mut WorldPass<A, B, C>,
-    (ring, place, off): (&mut Ring, u32, u32),
-    bytes: &[u8],
-) -> Result<Outcome, NoMemory> {
+    ring: &mut Ring,
+    place: u32,
+    writing: Writing<'_>,
+) -> Result<Outcome, NoMemory>
+    requires few { pass.old.tally.steps < most_steps }
+    requires in_page { writing.off + length writing.bytes.now ≤ page_bytes }
+    ensures can { IfOk result (λ o. IsTrue (is_done o || is_fault o)) }
+    ensures pass { IfOk result (λ o. pass.new ≡ stepped pass.old o) }
+    ensures err { OnErr result (pass.new ≡ pass.old) }
+{
     board.reserve()?;
     if place >= slots::page_count(ring.len()) {
         return Ok(append(board, pass, Outcome::Fault, FlagChange::Keep));
     }
-    if !bytes.is_empty() {
-        ring.write(place * PAGE_BYTES + off, bytes);
+    if !writing.bytes.is_empty() {
+        ring.write(place * PAGE_BYTES + writing.off, writing.bytes);
     }
     Ok(append(board, pass, Outcome::Done, FlagChange::Keep))
 }
@@ -196,16 +247,17 @@ fn put_page<A: Ledger, B: Ledger, C: Ledger>(
     board: &mut Board<A, B, C>,
     pass: &mut WorldPass<A, B, C>,
     private: &mut Private,
-    to: Piece,
-    bytes: &[u8],
+    page: u64,
+    writing: Writing<'_>,
 ) -> Result<Outcome, NoMemory>
     requires few { pass.old.tally.steps < most_steps }
-    requires in_page { to.off + length bytes.now ≤ page_bytes }
+    requires in_page { writing.off + length writing.bytes.now ≤ page_bytes }
+    ensures can { IfOk result (λ o. IsTrue (is_done o || is_fault o)) }
     ensures pass { IfOk result (λ o. pass.new ≡ stepped pass.old o) }
     ensures err { OnErr result (pass.new ≡ pass.old) }
 {
     board.reserve()?;
-    let outcome = if private.write(to.page, to.off, bytes) {
+    let outcome = if private.write(page, writing.off, writing.bytes) {
         Outcome::Done
     } else {
         Outcome::Fault

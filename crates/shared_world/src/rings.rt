@@ -1,8 +1,8 @@
 //! The rings of a domain, each behind its lock, and which page stands in which ring.
-ghost use Rattle.std.specs.Prelude.{◌≡◌, length, IsTrue, IfOk};
+ghost use Rattle.std.specs.Prelude.{◌≡◌, length, IsTrue};
 ghost use Rattle.argo_base.specs.Slots.{is_legal, page_count};
 
-use argo_base::{NoMemory, RingId, RingKey};
+use argo_base::{Ended, NoMemory, RingId, RingKey};
 use guest_pages::{LendFault, PageRow, Private};
 use lock_tokens::Gate;
 use pending_list::Notices;
@@ -21,6 +21,7 @@ pub(crate) struct Home {
 /// The ring table of a domain, and for each of its pages the ring in which it stands, if it stands in one.
 #[derive(Drop)]
 pub(crate) struct Rings {
+    alloc: Global,
     pub(crate) table: Table<Gate<Ring, 3>>,
     next_serial: u64,
     homes: Vec<Option<Home>>,
@@ -30,6 +31,7 @@ impl Rings {
     /// No rings, for a domain of so many pages.
     pub(crate) fn new(alloc: Global, pages: u32) -> Result<Rings, NoMemory> {
         Ok(Rings {
+            alloc,
             table: Table::new(alloc),
             next_serial: 1,
             homes: Vec::from_elem(alloc, None, pages as usize)?,
@@ -43,6 +45,11 @@ impl Rings {
         Some((&row.value, home.place))
     }
 
+    /// Whether a ring stands under the key.
+    pub(crate) fn has_ring(&self, key: RingKey) -> bool {
+        self.table.find_exact(key).is_some()
+    }
+
     /// A ring, to be changed by whoever has the table for writing: then nobody has the ring's lock.
     pub(crate) fn ring_mut(&mut self, key: RingKey) -> Option<&mut Ring> {
         let gate = self.table.find_exact_mut(key)?;
@@ -51,18 +58,12 @@ impl Rings {
 
     /// Makes a ring with the next serial on these pages, under a key that has none. Where it cannot be put into the table, the pages come
     /// back as they were.
-    pub(crate) fn make(
-        &mut self,
-        alloc: Global,
-        id: RingId,
-        len: u32,
-        row: PageRow,
-    ) -> Result<(), PageRow>
+    pub(crate) fn make(&mut self, id: RingId, len: u32, row: PageRow) -> Result<(), PageRow>
         requires legal { IsTrue (is_legal len) }
         requires pages { length row ≡ page_count len }
     {
         let word = tx_word(&row);
-        let ring = Ring::new(alloc, id, len, row);
+        let ring = Ring::new(self.alloc, id, len, row);
         match self
             .table
             .insert(id.key(), self.next_serial, Gate::new(ring))
@@ -86,7 +87,7 @@ impl Rings {
         len: u32,
         private: &mut Private,
         numbers: &[u64],
-    ) -> Result<argo_base::Ended, LendFault>
+    ) -> Result<Ended, LendFault>
         requires legal { IsTrue (is_legal len) }
         requires counted { length numbers.now ≡ page_count len }
     {
@@ -100,13 +101,15 @@ impl Rings {
         ended
     }
 
-    /// Ends a ring: its pages become private again, and its notices come back.
-    pub(crate) fn end(&mut self, key: RingKey, private: &mut Private) -> Option<Notices> {
-        let gate = self.table.remove(key)?;
+    /// Ends a ring: its pages become private again, and its notices come back. Where there is none, there were no notices.
+    pub(crate) fn end(&mut self, key: RingKey, private: &mut Private) -> Notices {
+        let Some(gate) = self.table.remove(key) else {
+            return Notices::new();
+        };
         let (row, notices) = gate.into_inner().into_parts();
         leave(&mut self.homes, &row);
         private.give_back(row);
-        Some(notices)
+        notices
     }
 
     // Notes where the pages of a ring stand.

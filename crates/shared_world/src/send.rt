@@ -1,9 +1,14 @@
 //! Messages and questions to rings of other domains.
-ghost use Rattle.std.specs.Prelude.{◌≡◌, ◌<◌, IsTrue, IfOk, OnErr};
+ghost use Rattle.std.specs.Prelude.{◌≡◌, ◌<◌, [], ◌∷◌, IsTrue, IfOk, OnErr};
+ghost use Rattle.argo_model.specs.declared.action.Action.TheVariants.{Deliver, Query};
+ghost use Rattle.argo_model.specs.declared.scripts.Actor.TheVariants.{Vcpu};
 ghost use Rattle.argo_model.specs.Rules.Fit.{is_fit_load};
+ghost use Rattle.argo_model.specs.Rules.Possible.{is_possible};
 ghost use Rattle.argo_board.specs.Board.{most_steps};
-ghost use Rattle.lock_tokens.specs.Ranks.{IsAboveAll};
+ghost use Rattle.ring_core.specs.Offers.{outcome_of as the_outcome};
+ghost use Rattle.shared_world.specs.Domains.{IsParty};
 ghost use Rattle.shared_world.specs.Passes.{stepped};
+ghost use Rattle.shared_world.specs.Possible.{is_answer, is_offered};
 
 use crate::domains::Domains;
 use crate::journal::append;
@@ -46,7 +51,18 @@ impl<A: Plan, B: Ledger, C: Ledger, P: Pause> World<A, B, C, P> {
         domains: &Domains<A>,
         caller: &Party<'_>,
         sent: Sent,
-    ) -> Result<Outcome, NoMemory> {
+    ) -> Result<Outcome, NoMemory>
+        requires held { pass.old.held ≡ 1 ∷ [] }
+        requires few { pass.old.tally.steps < most_steps }
+        requires short { IsTrue (is_fit_load sent.offer.load) }
+        requires src { sent.offer.sender ≡ caller.now.id }
+        requires caller { IsParty A.facts caller.now.id caller.now.on caller.now.pages }
+        ensures possible { IfOk result
+            (λ o. IsTrue (is_possible A.facts (Vcpu caller.now.id caller.now.generation)
+            (Deliver sent.offer.port sent.to sent.to_port sent.offer.kind sent.offer.load) o)) }
+        ensures pass { IfOk result (λ o. pass.new ≡ stepped pass.old o) }
+        ensures err { OnErr result (pass.new ≡ pass.old) }
+    {
         let Some(receiver) = domains.party(sent.to) else {
             return self.note(rt, pass, Outcome::Refused(Errno::Srch));
         };
@@ -78,7 +94,14 @@ impl<A: Plan, B: Ledger, C: Ledger, P: Pause> World<A, B, C, P> {
         caller: &Party<'_>,
         ring: &Gate<Ring, 3>,
         offer: Offer,
-    ) -> Result<Outcome, NoMemory> {
+    ) -> Result<Outcome, NoMemory>
+        requires held { pass.old.held ≡ 1 ∷ 2 ∷ [] }
+        requires few { pass.old.tally.steps < most_steps }
+        requires short { IsTrue (is_fit_load offer.load) }
+        ensures can { IfOk result (λ o. IsTrue (is_offered offer.load o)) }
+        ensures pass { IfOk result (λ o. pass.new ≡ stepped pass.old o) }
+        ensures err { OnErr result (pass.new ≡ pass.old) }
+    {
         let mut part = ring.lock(rt, &mut pass.held);
         let outcome = self.offer_to(rt, pass, caller, part.value_mut(), offer);
         part.release(&mut pass.held);
@@ -93,7 +116,14 @@ impl<A: Plan, B: Ledger, C: Ledger, P: Pause> World<A, B, C, P> {
         caller: &Party<'_>,
         ring: &mut Ring,
         offer: Offer,
-    ) -> Result<Outcome, NoMemory> {
+    ) -> Result<Outcome, NoMemory>
+        requires held { pass.old.held ≡ 1 ∷ 2 ∷ 3 ∷ [] }
+        requires few { pass.old.tally.steps < most_steps }
+        requires short { IsTrue (is_fit_load offer.load) }
+        ensures can { IfOk result (λ o. IsTrue (is_offered offer.load o)) }
+        ensures pass { IfOk result (λ o. pass.new ≡ stepped pass.old o) }
+        ensures err { OnErr result (pass.new ≡ pass.old) }
+    {
         ring.reserve_log()?;
         self.pause.here(ring.id());
         let listed = match size_of(&offer.load) {
@@ -117,7 +147,16 @@ impl<A: Plan, B: Ledger, C: Ledger, P: Pause> World<A, B, C, P> {
         domains: &Domains<A>,
         caller: &Party<'_>,
         asked: Asked,
-    ) -> Result<Outcome, NoMemory> {
+    ) -> Result<Outcome, NoMemory>
+        requires held { pass.old.held ≡ 1 ∷ [] }
+        requires few { pass.old.tally.steps < most_steps }
+        requires caller { IsParty A.facts caller.now.id caller.now.on caller.now.pages }
+        ensures possible { IfOk result
+            (λ o. IsTrue (is_possible A.facts (Vcpu caller.now.id caller.now.generation)
+            (Query asked.to asked.to_port asked.need) o)) }
+        ensures pass { IfOk result (λ o. pass.new ≡ stepped pass.old o) }
+        ensures err { OnErr result (pass.new ≡ pass.old) }
+    {
         if !caller.on {
             return self.note(rt, pass, Outcome::Refused(Errno::NoDev));
         }
@@ -144,7 +183,13 @@ impl<A: Plan, B: Ledger, C: Ledger, P: Pause> World<A, B, C, P> {
         caller: &Party<'_>,
         ring: &Gate<Ring, 3>,
         need: u32,
-    ) -> Result<Outcome, NoMemory> {
+    ) -> Result<Outcome, NoMemory>
+        requires held { pass.old.held ≡ 1 ∷ 2 ∷ [] }
+        requires few { pass.old.tally.steps < most_steps }
+        ensures can { IfOk result (λ o. IsTrue (is_answer o)) }
+        ensures pass { IfOk result (λ o. pass.new ≡ stepped pass.old o) }
+        ensures err { OnErr result (pass.new ≡ pass.old) }
+    {
         let mut part = ring.lock(rt, &mut pass.held);
         let outcome = self.ask_of(rt, pass, caller, part.value_mut(), need);
         part.release(&mut pass.held);
@@ -159,7 +204,13 @@ impl<A: Plan, B: Ledger, C: Ledger, P: Pause> World<A, B, C, P> {
         caller: &Party<'_>,
         ring: &mut Ring,
         need: u32,
-    ) -> Result<Outcome, NoMemory> {
+    ) -> Result<Outcome, NoMemory>
+        requires held { pass.old.held ≡ 1 ∷ 2 ∷ 3 ∷ [] }
+        requires few { pass.old.tally.steps < most_steps }
+        ensures can { IfOk result (λ o. IsTrue (is_answer o)) }
+        ensures pass { IfOk result (λ o. pass.new ≡ stepped pass.old o) }
+        ensures err { OnErr result (pass.new ≡ pass.old) }
+    {
         let listed = self.list_notice(rt, pass, caller, ring, need)?;
         let mut part = self.board.lock(rt, &mut pass.held);
         let outcome = asked_of(part.value_mut(), pass, ring, caller.id, need);
@@ -181,6 +232,7 @@ fn offered<A: Ledger, B: Ledger, C: Ledger>(
     requires few { pass.old.tally.steps < most_steps }
     requires reserved { IsTrue ring.old.has_room }
     requires short { IsTrue (is_fit_load offer.load) }
+    ensures can { IfOk result (λ o. IsTrue (is_offered offer.load o)) }
     ensures pass { IfOk result (λ o. pass.new ≡ stepped pass.old o) }
     ensures err { OnErr result (pass.new ≡ pass.old) }
 {
@@ -201,7 +253,9 @@ fn change_of(outcome: &Outcome, owner: DomId) -> FlagChange {
 }
 
 // What a ring's answer to an offer comes to.
-fn outcome_of(accept: Accept) -> Outcome {
+fn outcome_of(accept: Accept) -> Outcome
+    ensures { result ≡ the_outcome accept }
+{
     match accept {
         Accept::Refused(error) => Outcome::Refused(error),
         Accept::TooBig => Outcome::Refused(Errno::MsgSize),
@@ -221,6 +275,7 @@ fn asked_of<A: Ledger, B: Ledger, C: Ledger>(
     need: u32,
 ) -> Result<Outcome, NoMemory>
     requires { pass.old.tally.steps < most_steps }
+    ensures can { IfOk result (λ o. IsTrue (is_answer o)) }
     ensures pass { IfOk result (λ o. pass.new ≡ stepped pass.old o) }
     ensures err { OnErr result (pass.new ≡ pass.old) }
 {

@@ -1,7 +1,11 @@
 //! The notices of the caller's rings are looked through.
-ghost use Rattle.std.specs.Prelude.{◌≡◌, ◌<◌, IfOk, OnErr};
-ghost use Rattle.argo_board.specs.Board.{most_steps};
+ghost use Rattle.std.specs.Prelude.{◌≡◌, ◌<◌, [], ◌∷◌, IsTrue, IfOk, OnErr};
+ghost use Rattle.argo_model.specs.declared.action.Action.TheVariants.{Sweep as Sweeps};
 ghost use Rattle.argo_model.specs.declared.action.Outcome.TheVariants.{Swept};
+ghost use Rattle.argo_model.specs.declared.scripts.Actor.TheVariants.{Vcpu};
+ghost use Rattle.argo_model.specs.Rules.Possible.{is_possible};
+ghost use Rattle.argo_board.specs.Board.{most_steps};
+ghost use Rattle.shared_world.specs.Domains.{IsParty};
 ghost use Rattle.lock_tokens.specs.Ranks.{IsAboveAll};
 ghost use Rattle.shared_world.specs.Passes.{stepped};
 
@@ -31,7 +35,16 @@ impl<A: Plan, B: Ledger, C: Ledger, P: Pause> World<A, B, C, P> {
         domains: &Domains<A>,
         caller: &Party<'_>,
         after: u64,
-    ) -> Result<Outcome, NoMemory> {
+    ) -> Result<Outcome, NoMemory>
+        requires held { pass.old.held ≡ 1 ∷ [] }
+        requires few { pass.old.tally.steps < most_steps }
+        requires caller { IsParty A.facts caller.now.id caller.now.on caller.now.pages }
+        ensures possible { IfOk result
+            (λ o. IsTrue (is_possible A.facts (Vcpu caller.now.id caller.now.generation)
+            (Sweeps after) o)) }
+        ensures pass { IfOk result (λ o. pass.new ≡ stepped pass.old o) }
+        ensures err { OnErr result (pass.new ≡ pass.old) }
+    {
         if !caller.on {
             return self.note(rt, pass, Outcome::Refused(Errno::NoDev));
         }
@@ -51,7 +64,13 @@ impl<A: Plan, B: Ledger, C: Ledger, P: Pause> World<A, B, C, P> {
         pass: &mut WorldPass<A, B, C>,
         domains: &Domains<A>,
         row: &Row<Gate<Ring, 3>>,
-    ) -> Result<Outcome, NoMemory> {
+    ) -> Result<Outcome, NoMemory>
+        requires held { pass.old.held ≡ 1 ∷ 2 ∷ [] }
+        requires few { pass.old.tally.steps < most_steps }
+        ensures can { IfOk result (λ o. o ≡ Swept row.now.serial) }
+        ensures pass { IfOk result (λ o. pass.new ≡ stepped pass.old o) }
+        ensures err { OnErr result (pass.new ≡ pass.old) }
+    {
         let mut part = row.value.lock(rt, &mut pass.held);
         let ring = part.value_mut();
         let outcome = match self.sweep_ring(rt, pass, ring, row.serial) {

@@ -1,22 +1,26 @@
 //! The world, and each action of a pass.
 ghost use Rattle.std.specs.Prelude.{◌≡◌, ◌+◌, ◌<◌, [], ◌∷◌, IsTrue, IfOk, OnErr, length, map};
+ghost use Rattle.argo_model.specs.declared.scripts.Actor.TheVariants.{Vcpu};
 ghost use Rattle.argo_model.specs.Rules.Access.{is_fit_at};
-ghost use Rattle.argo_model.specs.Rules.Fit.{is_fit_for};
+ghost use Rattle.argo_model.specs.Rules.Fit.{is_fit, is_fit_for};
 ghost use Rattle.argo_model.specs.Rules.Possible.{facts_of, is_possible};
 ghost use Rattle.argo_model.specs.Runs.Final.{totals_after};
+ghost use Rattle.argo_model.specs.Runs.Script.{is_known_actor};
 ghost use Rattle.argo_board.specs.Board.{most_steps, totals_of};
+ghost use Rattle.shared_world.specs.Domains.{IsParty};
 ghost use Rattle.shared_world.specs.Passes.{AreFresh, stepped};
 ghost use Rattle.shared_world.specs.Possible.{is_possible_at, may_end};
 
 use crate::domains::Domains;
 use crate::ends::End;
+use crate::memory::Writing;
 use crate::party::Party;
 use crate::pass::WorldPass;
 use crate::pause::Pause;
 use crate::plan::{Blanks, Plan};
-use crate::registers::Registration;
+use crate::registration::Registration;
 use crate::send::{Asked, Sent};
-use argo_base::{DomId, NoMemory, Piece, RingKey};
+use argo_base::{NoMemory, Piece, RingId, RingKey};
 use argo_board::{Board, Pass};
 use argo_model::{Action, Actor, Outcome, Part, Scripts};
 use lock_tokens::{Gate, RwGate};
@@ -27,7 +31,8 @@ use std::sync::Wait;
 use std::sync::ledger::Ledger;
 
 /// The world of a script, which many virtual CPUs share by reference, each with a pass of its own. The first of its ledgers knows what
-/// never changes of the script: its domain lines, its sections, and which domains its lines destroy.
+/// never changes of the script: its domain lines, its sections, and which domains its lines destroy. Contracts see
+/// the world as its `Pause`; all else that it holds is behind locks, and known there by its types.
 #[derive(Drop)]
 pub struct World<A: Plan, B: Ledger, C: Ledger, P: Pause> {
     pub(crate) alloc: Global,
@@ -35,6 +40,17 @@ pub struct World<A: Plan, B: Ledger, C: Ledger, P: Pause> {
     pub(crate) actors: Vec<Actor>,
     pub(crate) domains: RwGate<Domains<A>, 1>,
     pub(crate) board: Gate<Board<A, B, C>, 7>,
+}
+
+impl<A: Plan, B: Ledger, C: Ledger, P: Pause> Model for World<A, B, C, P> {
+    ghost use Rattle.std.specs.Prelude.{◌≡◌};
+    ghost use Rattle.shared_world.specs.Plans.{IsPlan};
+
+    ghost Value = { P };
+
+    ghost view = { λ w. w.pause };
+
+    ghost invariant = { λ w. (w.actors.items ≡ A.actors) × IsPlan A.facts A.actors A.parts };
 }
 
 impl<A: Plan, B: Ledger, C: Ledger, P: Pause> World<A, B, C, P> {
@@ -70,7 +86,7 @@ impl<A: Plan, B: Ledger, C: Ledger, P: Pause> World<A, B, C, P> {
 
     /// What is told of places in the run.
     pub fn pause(&self) -> &P
-        ensures { result.now ≡ self.now.pause }
+        ensures { result.now ≡ self.now }
     {
         &self.pause
     }
@@ -112,18 +128,21 @@ impl<A: Plan, B: Ledger, C: Ledger, P: Pause> World<A, B, C, P> {
         actor: Actor,
         a: Action,
     ) -> Result<Outcome, NoMemory>
-        requires free { pass.old.held ≡ [] }
+        requires held { pass.old.held ≡ [] }
         requires few { pass.old.tally.steps < most_steps }
         requires fit { IsTrue (is_fit_for actor a) }
+        requires known { IsTrue (is_known_actor A.facts.domains actor) }
         ensures possible { IfOk result (λ o. IsTrue (is_possible A.facts actor a o)) }
         ensures pass { IfOk result (λ o. pass.new ≡ stepped pass.old o) }
         ensures err { OnErr result (pass.new ≡ pass.old) }
     {
         let part = self.domains.read(rt, &mut pass.held);
+        let domains = part.value();
         let outcome = match actor {
-            Actor::Vcpu(dom, generation) => {
-                self.vcpu_act(rt, pass, part.value(), (dom, generation), a)
-            }
+            Actor::Vcpu(dom, generation) => match domains.caller(dom, generation) {
+                Some(caller) => self.vcpu_act(rt, pass, domains, &caller, a),
+                None => self.note(rt, pass, Outcome::Gone),
+            },
             Actor::Control => self.note(rt, pass, Outcome::Done),
         };
         part.release(&mut pass.held);
@@ -136,28 +155,33 @@ impl<A: Plan, B: Ledger, C: Ledger, P: Pause> World<A, B, C, P> {
         rt: &R,
         pass: &mut WorldPass<A, B, C>,
         domains: &Domains<A>,
-        (dom, generation): (DomId, u32),
+        caller: &Party<'_>,
         a: Action,
-    ) -> Result<Outcome, NoMemory> {
-        let Some(caller) = domains.caller(dom, generation) else {
-            return self.note(rt, pass, Outcome::Gone);
-        };
+    ) -> Result<Outcome, NoMemory>
+        requires held { pass.old.held ≡ 1 ∷ [] }
+        requires few { pass.old.tally.steps < most_steps }
+        requires fit { IsTrue (is_fit a) }
+        requires caller { IsParty A.facts caller.now.id caller.now.on caller.now.pages }
+        ensures possible { IfOk result
+            (λ o. IsTrue (is_possible A.facts (Vcpu caller.now.id caller.now.generation) a o)) }
+        ensures pass { IfOk result (λ o. pass.new ≡ stepped pass.old o) }
+        ensures err { OnErr result (pass.new ≡ pass.old) }
+    {
         match a {
-            Action::Fetch { page, off, n } => self.fetch(rt, pass, &caller, Piece { page, off, n }),
+            Action::Fetch { page, off, n } => self.fetch(rt, pass, caller, Piece { page, off, n }),
             Action::Put { page, off, bytes } => {
-                let to = Piece {
-                    page,
+                let writing = Writing {
                     off,
-                    n: bytes.len() as u32,
+                    bytes: bytes.as_slice(),
                 };
-                self.put(rt, pass, &caller, to, bytes.as_slice())
+                self.put(rt, pass, caller, page, writing)
             }
-            Action::Look => self.look(rt, pass, dom),
-            a => self.argo_act(rt, pass, domains, &caller, a),
+            Action::Look => self.look(rt, pass, caller.id),
+            a => self.argo_act(rt, pass, domains, caller, a),
         }
     }
 
-    // Performs an act of Argo.
+    // Performs an act of Argo, or rests.
     fn argo_act<R: Wait>(
         &self,
         rt: &R,
@@ -165,7 +189,16 @@ impl<A: Plan, B: Ledger, C: Ledger, P: Pause> World<A, B, C, P> {
         domains: &Domains<A>,
         caller: &Party<'_>,
         a: Action,
-    ) -> Result<Outcome, NoMemory> {
+    ) -> Result<Outcome, NoMemory>
+        requires held { pass.old.held ≡ 1 ∷ [] }
+        requires few { pass.old.tally.steps < most_steps }
+        requires fit { IsTrue (is_fit a) }
+        requires caller { IsParty A.facts caller.now.id caller.now.on caller.now.pages }
+        ensures possible { IfOk result
+            (λ o. IsTrue (is_possible A.facts (Vcpu caller.now.id caller.now.generation) a o)) }
+        ensures pass { IfOk result (λ o. pass.new ≡ stepped pass.old o) }
+        ensures err { OnErr result (pass.new ≡ pass.old) }
+    {
         match a {
             Action::Register {
                 port,
@@ -175,7 +208,11 @@ impl<A: Plan, B: Ledger, C: Ledger, P: Pause> World<A, B, C, P> {
                 fail_exist,
             } => {
                 let r = Registration {
-                    key: RingKey { port, partner },
+                    id: RingId {
+                        owner: caller.id,
+                        port,
+                        partner,
+                    },
                     len,
                     pages,
                     fail_exist,
