@@ -16,7 +16,7 @@ use crate::party::Party;
 use crate::pass::WorldPass;
 use crate::pause::Pause;
 use crate::plan::Plan;
-use crate::registration::{Registration, Standing, refusal, standing};
+use crate::registration::{Registration, Standing, found, refusal};
 use crate::rings::Rings;
 use crate::waiting::copy_of;
 use crate::world::World;
@@ -55,7 +55,7 @@ impl<A: Plan, B: Ledger, C: Ledger, P: Pause> World<A, B, C, P> {
         let private = &caller.live.private;
         let mut part = caller.live.rings.write(rt, &mut pass.held);
         let rings = part.value_mut();
-        let outcome = match standing(rings, &r) {
+        let outcome = match found(rings, &r) {
             Standing::Refused(error) => self.note(rt, pass, Outcome::Refused(error)),
             Standing::Same => self.note(rt, pass, Outcome::Done),
             Standing::Other => match self.register_anew(rt, pass, private, rings, &r) {

@@ -55,7 +55,7 @@ pub(crate) fn refusal<A: Plan>(
 }
 
 /// How a registration finds the caller's rings, where it is not refused before.
-pub(crate) fn standing(rings: &mut Rings, r: &Registration) -> Standing {
+pub(crate) fn found(rings: &mut Rings, r: &Registration) -> Standing {
     let count = rings.table.count();
     match rings.ring_mut(r.id.key()) {
         Some(_) if r.fail_exist => Standing::Refused(Errno::Exist),

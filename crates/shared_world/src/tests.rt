@@ -72,8 +72,8 @@ fn drawn_steps_are_those_of_the_plain_world(rt: HostRuntime) -> Result<(), Fail>
     let alloc = rt.alloc();
     let scripts = scripts::five_domains(alloc)?;
     let mut tags = [0u64; 10];
-    for seed in 0..60 {
-        let steps = 20 + 10 * seed;
+    for seed in 0..16 {
+        let steps = 100 + 20 * seed;
         let blanks = Blanks {
             room: Blank::new(10),
             sends: Blank::new(10),
