@@ -73,7 +73,7 @@ fn drawn_steps_are_those_of_the_plain_world(rt: HostRuntime) -> Result<(), Fail>
     let scripts = scripts::five_domains(alloc)?;
     let mut tags = [0u64; 10];
     for seed in 0..16 {
-        let steps = 100 + 20 * seed;
+        let steps = 200 + 20 * seed;
         let blanks = Blanks {
             room: Blank::new(10),
             sends: Blank::new(10),
@@ -93,6 +93,8 @@ fn drawn_steps_are_those_of_the_plain_world(rt: HostRuntime) -> Result<(), Fail>
             *all = all.wrapping_add(*one);
         }
     }
-    assert_eq!(rt; tags, [0; 10]);
+    for count in tags {
+        assert!(rt; count >= 10, "{tags:?}");
+    }
     Ok(())
 }

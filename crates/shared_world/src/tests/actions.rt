@@ -54,11 +54,11 @@ impl Draws {
 
     fn of_control(&mut self) -> Action {
         let dom = DomId(1 + self.below(5) as u16);
-        match self.below(4) {
-            0 => Action::Destroy { dom },
-            1 => Action::Reset { dom },
-            2 => Action::Rest,
-            _ => Action::Create { dom },
+        match self.below(24) {
+            0 | 1 => Action::Destroy { dom },
+            2 => Action::Reset { dom },
+            3..=8 => Action::Create { dom },
+            _ => Action::Rest,
         }
     }
 
@@ -112,6 +112,13 @@ impl Draws {
         }
     }
 
+    fn receiver(&mut self) -> DomId {
+        match self.below(8) {
+            0 => self.partner(),
+            _ => self.dom(),
+        }
+    }
+
     fn dom(&mut self) -> DomId {
         DomId(1 + self.below(5) as u16)
     }
@@ -124,7 +131,7 @@ impl Draws {
         let len = LENGTHS[self.below(6) as usize];
         let mut pages = PageList::new(alloc);
         for _ in 0..slots::page_count(len) {
-            pages.push(self.below(6))?;
+            pages.push(self.below(5))?;
         }
         Ok(Action::Register {
             port: self.port(),
@@ -158,7 +165,7 @@ impl Draws {
         };
         Ok(Action::Deliver {
             port: self.below(9) as u32,
-            to: self.partner(),
+            to: self.receiver(),
             to_port: self.port(),
             kind: self.below(9) as u32,
             load,
@@ -167,7 +174,7 @@ impl Draws {
 
     fn query(&mut self) -> Action {
         Action::Query {
-            to: self.partner(),
+            to: self.receiver(),
             to_port: self.port(),
             need: self.below(200) as u32,
         }
