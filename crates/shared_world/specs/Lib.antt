@@ -1,5 +1,4 @@
 pub mod Closed
-pub mod Domains
 pub mod Ends
 pub mod Passes
 pub mod Plans

@@ -9,12 +9,12 @@ ghost use Rattle.shared_world.specs.Passes.{stepped};
 
 use crate::pass::WorldPass;
 use crate::pause::Pause;
-use crate::plan::Plan;
 use crate::short::short_of;
 use crate::world::World;
 use argo_base::{DomId, NoMemory};
 use argo_board::{Board, Entry, FlagChange};
 use argo_model::Outcome;
+use shared_parts::Plan;
 use std::sync::Wait;
 use std::sync::ledger::Ledger;
 

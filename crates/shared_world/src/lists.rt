@@ -2,17 +2,15 @@
 ghost use Rattle.std.specs.Prelude.{◌≡◌};
 ghost use Rattle.lock_tokens.specs.Ranks.{IsAboveAll};
 
-use crate::domains::Domains;
-use crate::party::Party;
 use crate::pass::WorldPass;
 use crate::pause::Pause;
-use crate::plan::Plan;
 use crate::waiting::{is_noted, will_wait};
 use crate::world::World;
 use argo_base::{DomId, NoMemory, RingId};
 use argo_model::Outcome;
 use pending_list::Notices;
 use ring_core::Ring;
+use shared_parts::{Domains, Party, Plan};
 use std::sync::Wait;
 use std::sync::ledger::Ledger;
 

@@ -6,14 +6,12 @@ ghost use Rattle.argo_model.specs.declared.scripts.Actor.TheVariants.{Vcpu};
 ghost use Rattle.argo_model.specs.Rules.Outcomes.{is_done, is_fault, is_fetched};
 ghost use Rattle.argo_model.specs.Rules.Possible.{is_possible};
 ghost use Rattle.argo_board.specs.Board.{most_steps};
-ghost use Rattle.shared_world.specs.Domains.{IsParty};
+ghost use Rattle.shared_parts.specs.Domains.{IsParty};
 ghost use Rattle.shared_world.specs.Passes.{stepped};
 
 use crate::journal::append;
-use crate::party::Party;
 use crate::pass::WorldPass;
 use crate::pause::Pause;
-use crate::plan::Plan;
 use crate::world::World;
 use argo_base::{Bytes, NoMemory, PAGE_BYTES, Piece, slots};
 use argo_board::{Board, FlagChange};
@@ -21,6 +19,7 @@ use argo_model::Outcome;
 use guest_pages::Private;
 use lock_tokens::Gate;
 use ring_core::Ring;
+use shared_parts::{Party, Plan};
 use std::alloc::Global;
 use std::sync::Wait;
 use std::sync::ledger::Ledger;
@@ -69,7 +68,7 @@ impl<A: Plan, B: Ledger, C: Ledger, P: Pause> World<A, B, C, P> {
         rt: &R,
         pass: &mut WorldPass<A, B, C>,
         ring: &Gate<Ring, 3>,
-        place: u32,
+        place: usize,
         from: Piece,
     ) -> Result<Outcome, NoMemory>
         requires held { pass.old.held ≡ 1 ∷ 2 ∷ [] }
@@ -149,7 +148,7 @@ impl<A: Plan, B: Ledger, C: Ledger, P: Pause> World<A, B, C, P> {
         rt: &R,
         pass: &mut WorldPass<A, B, C>,
         ring: &Gate<Ring, 3>,
-        place: u32,
+        place: usize,
         writing: Writing<'_>,
     ) -> Result<Outcome, NoMemory>
         requires held { pass.old.held ≡ 1 ∷ 2 ∷ [] }
@@ -193,16 +192,16 @@ impl<A: Plan, B: Ledger, C: Ledger, P: Pause> World<A, B, C, P> {
 }
 
 // A copy of a piece of a ring's page. A place that is none of the ring's has no bytes.
-fn read_ring(alloc: Global, ring: &Ring, place: u32, from: Piece) -> Result<Outcome, NoMemory>
+fn read_ring(alloc: Global, ring: &Ring, place: usize, from: Piece) -> Result<Outcome, NoMemory>
     requires { from.off + from.n ≤ page_bytes }
     ensures { IfOk result (λ o. IsTrue (is_fetched from.n o)) }
 {
-    if place >= slots::page_count(ring.len()) {
+    if place >= slots::page_count(ring.len()) as usize {
         return Ok(Outcome::Fault);
     }
     let mut bytes = vec![in alloc; 0u8; from.n as usize]?;
     if from.n > 0 {
-        ring.read(place * PAGE_BYTES + from.off, bytes.as_mut_slice());
+        ring.read(place as u32 * PAGE_BYTES + from.off, bytes.as_mut_slice());
     }
     Ok(Outcome::Bytes(Bytes::from_vec(bytes)))
 }
@@ -223,7 +222,7 @@ fn put_ring<A: Ledger, B: Ledger, C: Ledger>(
     board: &mut Board<A, B, C>,
     pass: &mut WorldPass<A, B, C>,
     ring: &mut Ring,
-    place: u32,
+    place: usize,
     writing: Writing<'_>,
 ) -> Result<Outcome, NoMemory>
     requires few { pass.old.tally.steps < most_steps }
@@ -233,11 +232,11 @@ fn put_ring<A: Ledger, B: Ledger, C: Ledger>(
     ensures err { OnErr result (pass.new ≡ pass.old) }
 {
     board.reserve()?;
-    if place >= slots::page_count(ring.len()) {
+    if place >= slots::page_count(ring.len()) as usize {
         return Ok(append(board, pass, Outcome::Fault, FlagChange::Keep));
     }
     if !writing.bytes.is_empty() {
-        ring.write(place * PAGE_BYTES + writing.off, writing.bytes);
+        ring.write(place as u32 * PAGE_BYTES + writing.off, writing.bytes);
     }
     Ok(append(board, pass, Outcome::Done, FlagChange::Keep))
 }

@@ -6,18 +6,14 @@ ghost use Rattle.argo_model.specs.declared.action.Outcome.TheVariants.{Done};
 ghost use Rattle.argo_model.specs.declared.scripts.Actor.TheVariants.{Vcpu};
 ghost use Rattle.argo_model.specs.Rules.Possible.{is_possible};
 ghost use Rattle.argo_board.specs.Board.{most_steps};
-ghost use Rattle.shared_world.specs.Domains.{IsParty};
+ghost use Rattle.shared_parts.specs.Domains.{IsParty};
 ghost use Rattle.shared_world.specs.Passes.{stepped};
 ghost use Rattle.shared_world.specs.Possible.{is_made};
 
-use crate::domains::Domains;
 use crate::journal::append;
-use crate::party::Party;
 use crate::pass::WorldPass;
 use crate::pause::Pause;
-use crate::plan::Plan;
 use crate::registration::{Registration, Standing, found, refusal};
-use crate::rings::Rings;
 use crate::waiting::copy_of;
 use crate::world::World;
 use argo_base::{Ended, Errno, NoMemory};
@@ -25,6 +21,7 @@ use argo_board::{Board, FlagChange};
 use argo_model::Outcome;
 use guest_pages::{LendFault, PageRow, Private};
 use lock_tokens::Gate;
+use shared_parts::{Domains, Party, Plan, Rings};
 use std::sync::Wait;
 use std::sync::ledger::Ledger;
 

@@ -1,14 +1,10 @@
 //! What a domain asks for when it registers a ring, and how that finds the world.
 ghost use Rattle.std.specs.Prelude.{◌≡◌};
-ghost use Rattle.shared_world.specs.Domains.{IsParty};
+ghost use Rattle.shared_parts.specs.Domains.{IsParty};
 
-use crate::domains::Domains;
-use crate::party::Party;
-use crate::plan::Plan;
-use crate::rings::Rings;
 use argo_base::{Errno, PageList, RingId};
 use ring_core::Ring;
-use ring_table::MOST_ROWS;
+use shared_parts::{Domains, Party, Plan, Rings};
 
 /// What a domain asks for when it registers a ring.
 #[derive(Drop)]
@@ -56,12 +52,12 @@ pub(crate) fn refusal<A: Plan>(
 
 /// How a registration finds the caller's rings, where it is not refused before.
 pub(crate) fn found(rings: &mut Rings, r: &Registration) -> Standing {
-    let count = rings.table.count();
+    let is_full = rings.is_full();
     match rings.ring_mut(r.id.key()) {
         Some(_) if r.fail_exist => Standing::Refused(Errno::Exist),
         Some(ring) if is_same(ring, r) => Standing::Same,
         Some(_) => Standing::Other,
-        None if count == MOST_ROWS => Standing::Refused(Errno::NoSpc),
+        None if is_full => Standing::Refused(Errno::NoSpc),
         None => Standing::None,
     }
 }

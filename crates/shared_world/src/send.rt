@@ -6,16 +6,13 @@ ghost use Rattle.argo_model.specs.Rules.Fit.{is_fit_load};
 ghost use Rattle.argo_model.specs.Rules.Possible.{is_possible};
 ghost use Rattle.argo_board.specs.Board.{most_steps};
 ghost use Rattle.ring_core.specs.Offers.{outcome_of as the_outcome};
-ghost use Rattle.shared_world.specs.Domains.{IsParty};
+ghost use Rattle.shared_parts.specs.Domains.{IsParty};
 ghost use Rattle.shared_world.specs.Passes.{stepped};
 ghost use Rattle.shared_world.specs.Possible.{is_answer, is_offered};
 
-use crate::domains::Domains;
 use crate::journal::append;
-use crate::party::Party;
 use crate::pass::WorldPass;
 use crate::pause::Pause;
-use crate::plan::Plan;
 use crate::waiting::{NO_ANSWER, size_of};
 use crate::world::World;
 use argo_base::{DomId, DomList, Errno, NoMemory};
@@ -23,6 +20,7 @@ use argo_board::{Board, FlagChange};
 use argo_model::Outcome;
 use lock_tokens::Gate;
 use ring_core::{Accept, Offer, Ring};
+use shared_parts::{Domains, Party, Plan};
 use std::sync::Wait;
 use std::sync::ledger::Ledger;
 
@@ -78,8 +76,8 @@ impl<A: Plan, B: Ledger, C: Ledger, P: Pause> World<A, B, C, P> {
             offer,
         } = sent;
         let rings = receiver.live.rings.read(rt, &mut pass.held);
-        let outcome = match rings.value().table.find(to_port, caller.id) {
-            Some(row) => self.offer(rt, pass, caller, &row.value, offer),
+        let outcome = match rings.value().find(to_port, caller.id) {
+            Some(ring) => self.offer(rt, pass, caller, ring, offer),
             None => self.note(rt, pass, Outcome::Refused(Errno::ConnRefused)),
         };
         rings.release(&mut pass.held);
@@ -167,8 +165,8 @@ impl<A: Plan, B: Ledger, C: Ledger, P: Pause> World<A, B, C, P> {
             return self.note(rt, pass, Outcome::Answer(NO_ANSWER));
         }
         let rings = owner.live.rings.read(rt, &mut pass.held);
-        let outcome = match rings.value().table.find(asked.to_port, caller.id) {
-            Some(row) => self.ask(rt, pass, caller, &row.value, asked.need),
+        let outcome = match rings.value().find(asked.to_port, caller.id) {
+            Some(ring) => self.ask(rt, pass, caller, ring, asked.need),
             None => self.note(rt, pass, Outcome::Answer(NO_ANSWER)),
         };
         rings.release(&mut pass.held);

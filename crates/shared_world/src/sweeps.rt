@@ -5,16 +5,13 @@ ghost use Rattle.argo_model.specs.declared.action.Outcome.TheVariants.{Swept};
 ghost use Rattle.argo_model.specs.declared.scripts.Actor.TheVariants.{Vcpu};
 ghost use Rattle.argo_model.specs.Rules.Possible.{is_possible};
 ghost use Rattle.argo_board.specs.Board.{most_steps};
-ghost use Rattle.shared_world.specs.Domains.{IsParty};
+ghost use Rattle.shared_parts.specs.Domains.{IsParty};
 ghost use Rattle.lock_tokens.specs.Ranks.{IsAboveAll};
 ghost use Rattle.shared_world.specs.Passes.{stepped};
 
-use crate::domains::Domains;
 use crate::journal::append;
-use crate::party::Party;
 use crate::pass::WorldPass;
 use crate::pause::Pause;
-use crate::plan::Plan;
 use crate::waiting::copy_of;
 use crate::world::World;
 use argo_base::{Ended, Errno, NoMemory};
@@ -22,7 +19,7 @@ use argo_board::{Board, FlagChange};
 use argo_model::Outcome;
 use lock_tokens::Gate;
 use ring_core::Ring;
-use ring_table::Row;
+use shared_parts::{Domains, Party, Plan};
 use std::sync::Wait;
 use std::sync::ledger::Ledger;
 
@@ -49,8 +46,8 @@ impl<A: Plan, B: Ledger, C: Ledger, P: Pause> World<A, B, C, P> {
             return self.note(rt, pass, Outcome::Refused(Errno::NoDev));
         }
         let rings = caller.live.rings.read(rt, &mut pass.held);
-        let outcome = match rings.value().table.after(after) {
-            Some(row) => self.sweep_row(rt, pass, domains, row),
+        let outcome = match rings.value().after(after) {
+            Some((ring, serial)) => self.sweep_next(rt, pass, domains, ring, serial),
             None => self.note(rt, pass, Outcome::NoMore),
         };
         rings.release(&mut pass.held);
@@ -58,25 +55,26 @@ impl<A: Plan, B: Ledger, C: Ledger, P: Pause> World<A, B, C, P> {
     }
 
     // Sweeps a ring, and takes it off the lists of those whose notices ended.
-    fn sweep_row<R: Wait>(
+    fn sweep_next<R: Wait>(
         &self,
         rt: &R,
         pass: &mut WorldPass<A, B, C>,
         domains: &Domains<A>,
-        row: &Row<Gate<Ring, 3>>,
+        ring: &Gate<Ring, 3>,
+        serial: u64,
     ) -> Result<Outcome, NoMemory>
         requires held { pass.old.held ≡ 1 ∷ 2 ∷ [] }
         requires few { pass.old.tally.steps < most_steps }
-        ensures can { IfOk result (λ o. o ≡ Swept row.now.serial) }
+        ensures can { IfOk result (λ o. o ≡ Swept serial) }
         ensures pass { IfOk result (λ o. pass.new ≡ stepped pass.old o) }
         ensures err { OnErr result (pass.new ≡ pass.old) }
     {
-        let mut part = row.value.lock(rt, &mut pass.held);
+        let mut part = ring.lock(rt, &mut pass.held);
         let ring = part.value_mut();
-        let outcome = match self.sweep_ring(rt, pass, ring, row.serial) {
+        let outcome = match self.sweep_ring(rt, pass, ring, serial) {
             Ok(ended) => {
                 self.unlist_ended(rt, pass, domains, ring.id(), ended.as_slice());
-                Ok(Outcome::Swept(row.serial))
+                Ok(Outcome::Swept(serial))
             }
             Err(refused) => Err(refused),
         };

@@ -3,11 +3,12 @@ mod actions;
 mod same;
 mod scripts;
 
-use crate::{Blanks, Closed, NoPause, Plan, World, WorldPass};
+use crate::{Blanks, Closed, NoPause, World, WorldPass};
 use actions::{Draws, Kind};
 use argo_base::NoMemory;
 use argo_model::{Access, Heard, Scripts};
 use flat_world::FlatWorld;
+use shared_parts::Plan;
 use std::alloc::Global;
 use std::marker::Brand;
 use std::sync::Wait;

@@ -5,16 +5,12 @@ ghost use Rattle.argo_model.specs.declared.action.Outcome.TheVariants.{Done};
 ghost use Rattle.argo_model.specs.declared.scripts.Actor.TheVariants.{Vcpu};
 ghost use Rattle.argo_model.specs.Rules.Possible.{is_possible};
 ghost use Rattle.argo_board.specs.Board.{most_steps};
-ghost use Rattle.shared_world.specs.Domains.{IsParty};
+ghost use Rattle.shared_parts.specs.Domains.{IsParty};
 ghost use Rattle.shared_world.specs.Passes.{stepped};
 
-use crate::domains::Domains;
 use crate::journal::append;
-use crate::party::Party;
 use crate::pass::WorldPass;
 use crate::pause::Pause;
-use crate::plan::Plan;
-use crate::rings::Rings;
 use crate::world::World;
 use argo_base::{Errno, NoMemory, RingId, RingKey};
 use argo_board::{Board, FlagChange};
@@ -22,6 +18,7 @@ use argo_model::Outcome;
 use guest_pages::Private;
 use lock_tokens::Gate;
 use pending_list::Notices;
+use shared_parts::{Domains, Party, Plan, Rings};
 use std::sync::Wait;
 use std::sync::ledger::Ledger;
 

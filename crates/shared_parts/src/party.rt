@@ -4,10 +4,10 @@ use argo_base::DomId;
 
 /// A domain that is alive, as an action finds it while it holds the lock of the domains.
 #[derive(Clone, Copy)]
-pub(crate) struct Party<'a> {
-    pub(crate) id: DomId,
-    pub(crate) on: bool,
-    pub(crate) pages: u32,
-    pub(crate) generation: u32,
-    pub(crate) live: &'a Live,
+pub struct Party<'a> {
+    pub id: DomId,
+    pub on: bool,
+    pub pages: u32,
+    pub generation: u32,
+    pub live: &'a Live,
 }

@@ -4,7 +4,7 @@ ghost use Rattle.argo_model.specs.declared.scripts.Actor.{Actor as AnyActor};
 ghost use Rattle.argo_model.specs.Rules.Possible.{Facts as TheFacts};
 
 use std::marker::Brand;
-use std::sync::ledger::{Blank, Ledger};
+use std::sync::ledger::Ledger;
 
 /// The first ledger of a world. It carries, for proofs alone, the facts of the world's script that never change and who its sections
 /// are, so that the types of what lies behind the locks can speak of them.
@@ -18,13 +18,4 @@ impl Plan for Brand {
     ghost facts = { record { domains = []; destroyed = [] } };
 
     ghost actors = { [] };
-}
-
-/// What the three ledgers of a world are opened from: room for entries, accepted sends, and their bytes. Each is cut into one part
-/// more than there are sections.
-#[derive(Drop)]
-pub struct Blanks {
-    pub room: Blank,
-    pub sends: Blank,
-    pub loads: Blank,
 }

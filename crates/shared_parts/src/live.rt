@@ -9,20 +9,20 @@ use wildcard_list::WildList;
 
 /// What a domain has that is alive, each part behind a lock of its own.
 #[derive(Drop)]
-pub(crate) struct Live {
+pub struct Live {
     /// Its rings, and which of its pages stand in them.
-    pub(crate) rings: RwGate<Rings, 2>,
+    pub rings: RwGate<Rings, 2>,
     /// The rings that others registered for it alone.
-    pub(crate) sends: Gate<SendList, 4>,
+    pub sends: Gate<SendList, 4>,
     /// The wildcard rings that hold a notice of it.
-    pub(crate) wilds: Gate<WildList, 5>,
+    pub wilds: Gate<WildList, 5>,
     /// Its pages that stand in no ring.
-    pub(crate) private: Gate<Private, 6>,
+    pub private: Gate<Private, 6>,
 }
 
 impl Live {
     /// A domain with so many pages of zeros, without rings.
-    pub(crate) fn fresh(alloc: Global, pages: u32) -> Result<Live, NoMemory> {
+    pub fn fresh(alloc: Global, pages: u32) -> Result<Live, NoMemory> {
         let rings = Rings::new(alloc, pages)?;
         let private = Private::new(alloc, pages)?;
         Ok(Live {

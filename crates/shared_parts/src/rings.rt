@@ -1,35 +1,35 @@
 //! The rings of a domain, each behind its lock, and which page stands in which ring.
-ghost use Rattle.std.specs.Prelude.{◌≡◌, length, IsTrue};
+ghost use Rattle.std.specs.Prelude.{◌≡◌, ◌<◌, length, IsTrue, IfSome};
 ghost use Rattle.argo_base.specs.Slots.{is_legal, page_count};
 
-use argo_base::{Ended, NoMemory, RingId, RingKey};
+use argo_base::{DomId, Ended, NoMemory, RingId, RingKey};
 use guest_pages::{LendFault, PageRow, Private};
 use lock_tokens::Gate;
 use pending_list::Notices;
 use ring_core::Ring;
 use ring_space::{tx_word, write_tx};
-use ring_table::{InsertFault, Table};
+use ring_table::{InsertFault, MOST_ROWS, Table};
 use std::alloc::Global;
 
 /// Where a page stands that is lent: in which ring, and at which place of its row.
 #[derive(Clone, Copy, Debug)]
-pub(crate) struct Home {
+struct Home {
     key: RingKey,
-    place: u32,
+    place: usize,
 }
 
 /// The ring table of a domain, and for each of its pages the ring in which it stands, if it stands in one.
 #[derive(Drop)]
-pub(crate) struct Rings {
+pub struct Rings {
     alloc: Global,
-    pub(crate) table: Table<Gate<Ring, 3>>,
+    table: Table<Gate<Ring, 3>>,
     next_serial: u64,
     homes: Vec<Option<Home>>,
 }
 
 impl Rings {
     /// No rings, for a domain of so many pages.
-    pub(crate) fn new(alloc: Global, pages: u32) -> Result<Rings, NoMemory> {
+    pub fn new(alloc: Global, pages: u32) -> Result<Rings, NoMemory> {
         Ok(Rings {
             alloc,
             table: Table::new(alloc),
@@ -39,26 +39,62 @@ impl Rings {
     }
 
     /// The ring in which a page stands, if it stands in one, and the page's place there.
-    pub(crate) fn home_of(&self, page: u64) -> Option<(&Gate<Ring, 3>, u32)> {
+    pub fn home_of(&self, page: u64) -> Option<(&Gate<Ring, 3>, usize)> {
         let home = (*self.homes.get(page as usize)?)?;
         let row = self.table.find_exact(home.key)?;
         Some((&row.value, home.place))
     }
 
+    /// How many rings there are.
+    pub(crate) fn count(&self) -> u32 {
+        self.table.count()
+    }
+
+    /// Whether there are as many rings as a domain may have.
+    pub fn is_full(&self) -> bool {
+        self.table.count() == MOST_ROWS
+    }
+
+    /// The ring that a sender meets at a port.
+    pub fn find(&self, port: u32, sender: DomId) -> Option<&Gate<Ring, 3>> {
+        let row = self.table.find(port, sender)?;
+        Some(&row.value)
+    }
+
+    /// The ring with the least serial above this one, and its serial.
+    pub fn after(&self, serial: u64) -> Option<(&Gate<Ring, 3>, u64)>
+        ensures { IfSome result (λ r. serial < r.1) }
+    {
+        let row = self.table.after(serial)?;
+        Some((&row.value, row.serial))
+    }
+
+    /// The key of the first ring and its serial, by rising key.
+    pub(crate) fn first(&self) -> Option<(RingKey, u64)> {
+        let row = self.table.first()?;
+        Some((row.key, row.serial))
+    }
+
+    /// Takes a ring out as it is, with the pages that it stands on.
+    pub(crate) fn take(&mut self, key: RingKey) -> Option<Ring> {
+        let gate = self.table.remove(key)?;
+        Some(gate.into_inner())
+    }
+
     /// Whether a ring stands under the key.
-    pub(crate) fn has_ring(&self, key: RingKey) -> bool {
+    pub fn has_ring(&self, key: RingKey) -> bool {
         self.table.find_exact(key).is_some()
     }
 
     /// A ring, to be changed by whoever has the table for writing: then nobody has the ring's lock.
-    pub(crate) fn ring_mut(&mut self, key: RingKey) -> Option<&mut Ring> {
+    pub fn ring_mut(&mut self, key: RingKey) -> Option<&mut Ring> {
         let gate = self.table.find_exact_mut(key)?;
         Some(gate.get_mut())
     }
 
     /// Makes a ring with the next serial on these pages, under a key that has none. Where it cannot be put into the table, the pages come
     /// back as they were.
-    pub(crate) fn make(&mut self, id: RingId, len: u32, row: PageRow) -> Result<(), PageRow>
+    pub fn make(&mut self, id: RingId, len: u32, row: PageRow) -> Result<(), PageRow>
         requires legal { IsTrue (is_legal len) }
         requires pages { length row ≡ page_count len }
     {
@@ -81,7 +117,7 @@ impl Rings {
 
     /// Registers a ring that stands anew, with another length or on other pages. The domains whose notices ended come back. Where the
     /// pages cannot be lent, all stays.
-    pub(crate) fn restart(
+    pub fn restart(
         &mut self,
         key: RingKey,
         len: u32,
@@ -102,11 +138,11 @@ impl Rings {
     }
 
     /// Ends a ring: its pages become private again, and its notices come back. Where there is none, there were no notices.
-    pub(crate) fn end(&mut self, key: RingKey, private: &mut Private) -> Notices {
-        let Some(gate) = self.table.remove(key) else {
+    pub fn end(&mut self, key: RingKey, private: &mut Private) -> Notices {
+        let Some(ring) = self.take(key) else {
             return Notices::new();
         };
-        let (row, notices) = gate.into_inner().into_parts();
+        let (row, notices) = ring.into_parts();
         leave(&mut self.homes, &row);
         private.give_back(row);
         notices
@@ -134,10 +170,7 @@ fn unstarted(ring: Ring, word: u32) -> PageRow {
 fn move_in(homes: &mut Vec<Option<Home>>, key: RingKey, row: &PageRow) {
     for place in 0..row.count() {
         if let Some(home) = homes.get_mut(row.number(place) as usize) {
-            *home = Some(Home {
-                key,
-                place: place as u32,
-            });
+            *home = Some(Home { key, place });
         }
     }
 }

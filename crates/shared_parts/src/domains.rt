@@ -3,10 +3,9 @@ ghost use Rattle.std.specs.Prelude.{◌≡◌, IsTrue, IfSome, IfNone};
 ghost use Rattle.argo_model.specs.declared.scripts.Actor.TheVariants.{Vcpu};
 ghost use Rattle.argo_model.specs.Rules.Possible.{facts_of, may_be_away, may_be_gone};
 ghost use Rattle.argo_model.specs.Runs.Script.{has_domain};
-ghost use Rattle.shared_world.specs.Domains.{IsParty};
+ghost use Rattle.shared_parts.specs.Domains.{IsParty};
 
 use crate::domain::Domain;
-use crate::live::Live;
 use crate::party::Party;
 use crate::plan::Plan;
 use argo_base::{DomId, NoMemory};
@@ -17,14 +16,14 @@ use std::marker::{Model, PhantomData};
 
 /// The domains of a script by their ids, alive or gone. What its type keeps: each stands as a run of the script may leave it.
 #[derive(Drop)]
-pub(crate) struct Domains<A: Plan> {
+pub struct Domains<A: Plan> {
     pub(crate) domains: BTreeMap<DomId, Domain>,
     of: PhantomData<A>,
 }
 
 impl<A: Plan> Model for Domains<A> {
     ghost use Rattle.std.specs.Prelude.{ℕ, List};
-    ghost use Rattle.shared_world.specs.Domains.{Standing, AreOf};
+    ghost use Rattle.shared_parts.specs.Domains.{Standing, AreOf};
 
     ghost Value = { List (ℕ × Standing) };
 
@@ -35,7 +34,7 @@ impl<A: Plan> Model for Domains<A> {
 
 impl<A: Plan> Domains<A> {
     /// Every domain of the script, alive with generation 1.
-    pub(crate) fn new(alloc: Global, scripts: &Scripts) -> Result<Domains<A>, NoMemory>
+    pub fn new(alloc: Global, scripts: &Scripts) -> Result<Domains<A>, NoMemory>
         requires { A.facts ≡ facts_of scripts.now }
     {
         Ok(Domains {
@@ -45,7 +44,7 @@ impl<A: Plan> Domains<A> {
     }
 
     /// A domain, where it is alive.
-    pub(crate) fn party(&self, dom: DomId) -> Option<Party<'_>>
+    pub fn party(&self, dom: DomId) -> Option<Party<'_>>
         ensures id { IfSome result (λ p. p.id ≡ dom) }
         ensures party { IfSome result (λ p. IsParty A.facts dom p.on p.pages) }
         ensures away { IfNone result (IsTrue (may_be_away A.facts dom)) }
@@ -64,7 +63,7 @@ impl<A: Plan> Domains<A> {
     }
 
     /// A domain as the caller of its own action, where it is alive in the generation that its section names.
-    pub(crate) fn caller(&self, dom: DomId, generation: u32) -> Option<Party<'_>>
+    pub fn caller(&self, dom: DomId, generation: u32) -> Option<Party<'_>>
         requires { IsTrue (has_domain A.facts.domains dom) }
         ensures id { IfSome result (λ p. (p.id ≡ dom) × (p.generation ≡ generation)) }
         ensures party { IfSome result (λ p. IsParty A.facts dom p.on p.pages) }
@@ -76,12 +75,6 @@ impl<A: Plan> Domains<A> {
         } else {
             None
         }
-    }
-
-    /// What a domain has, where it is alive, to be changed by whoever has the domains for writing.
-    pub(crate) fn live_mut(&mut self, dom: DomId) -> Option<&mut Live> {
-        let domain = self.domains.get_mut(&dom)?;
-        domain.life.as_mut()
     }
 }
 
