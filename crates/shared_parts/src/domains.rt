@@ -69,12 +69,13 @@ impl<A: Plan> Domains<A> {
         ensures party { IfSome result (λ p. IsParty A.facts dom p.on p.pages) }
         ensures gone { IfNone result (IsTrue (may_be_gone A.facts (Vcpu dom generation))) }
     {
-        let party = self.party(dom)?;
-        if party.generation == generation {
-            Some(party)
-        } else {
-            None
+        let Some(party) = self.party(dom) else {
+            return None;
+        };
+        if party.generation != generation {
+            return None;
         }
+        Some(party)
     }
 }
 

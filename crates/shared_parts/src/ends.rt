@@ -136,8 +136,8 @@ impl<A: Plan> Domains<A> {
         if !id.partner.is_any() {
             return self.drop_send(id);
         }
-        for (dom, _) in notices.as_slice() {
-            self.drop_wild(*dom, id);
+        for notice in notices.as_slice() {
+            self.drop_wild(notice.0, id);
         }
     }
 

@@ -133,7 +133,7 @@ impl Rings {
         let ring = gate.get_mut();
         leave(&mut self.homes, ring.row());
         let ended = ring.restart(len, private, numbers);
-        move_in(&mut self.homes, key, ring.row());
+        move_in(&mut self.homes, ring);
         ended
     }
 
@@ -150,9 +150,10 @@ impl Rings {
 
     // Notes where the pages of a ring stand.
     fn settle(&mut self, key: RingKey) {
-        if let Some(gate) = self.table.find_exact_mut(key) {
-            move_in(&mut self.homes, key, gate.get_mut().row());
-        }
+        let Some(gate) = self.table.find_exact_mut(key) else {
+            return;
+        };
+        move_in(&mut self.homes, gate.get_mut());
     }
 }
 
@@ -166,20 +167,34 @@ fn unstarted(ring: Ring, word: u32) -> PageRow {
     row
 }
 
-// Notes that the pages stand in the ring of this key.
-fn move_in(homes: &mut Vec<Option<Home>>, key: RingKey, row: &PageRow) {
+// Notes that the pages of a ring stand in it.
+fn move_in(homes: &mut Vec<Option<Home>>, ring: &Ring) {
+    let row = ring.row();
     for place in 0..row.count() {
-        if let Some(home) = homes.get_mut(row.number(place) as usize) {
-            *home = Some(Home { key, place });
-        }
+        note(homes, row.number(place), Some(home_at(ring, place)));
     }
 }
 
 // Notes that the pages stand in no ring.
 fn leave(homes: &mut Vec<Option<Home>>, row: &PageRow) {
     for place in 0..row.count() {
-        if let Some(home) = homes.get_mut(row.number(place) as usize) {
-            *home = None;
-        }
+        note(homes, row.number(place), None);
     }
+}
+
+// A place of a ring's row.
+fn home_at(ring: &Ring, place: usize) -> Home {
+    let id = ring.id();
+    Home {
+        key: id.key(),
+        place,
+    }
+}
+
+// Notes where a page stands.
+fn note(homes: &mut Vec<Option<Home>>, page: u64, home: Option<Home>) {
+    let Some(noted) = homes.get_mut(page as usize) else {
+        return;
+    };
+    *noted = home;
 }

@@ -176,8 +176,8 @@ impl<A: Plan, B: Ledger, C: Ledger, P: Pause> World<A, B, C, P> {
         if !id.partner.is_any() {
             return self.unlist_ring(rt, pass, domains, id);
         }
-        for (dom, _) in notices.as_slice() {
-            self.unlist_one(rt, pass, domains, id, *dom);
+        for notice in notices.as_slice() {
+            self.unlist_one(rt, pass, domains, id, notice.0);
         }
     }
 }

@@ -6,7 +6,7 @@ mod scripts;
 use crate::{Blanks, Closed, NoPause, World, WorldPass};
 use actions::{Draws, Kind};
 use argo_base::NoMemory;
-use argo_model::{Access, Heard, Scripts};
+use argo_model::{Access, Action, Heard, Outcome, Scripts};
 use flat_world::FlatWorld;
 use shared_parts::Plan;
 use std::alloc::Global;
@@ -27,6 +27,34 @@ struct Both {
     closed: Closed,
 }
 
+/// The next action, which can be drawn any number of times.
+#[derive(Clone, Copy)]
+struct Next {
+    draws: Draws,
+    kind: Kind,
+}
+
+impl Next {
+    fn action(&self, alloc: Global) -> Result<Action, NoMemory> {
+        let mut draws = self.draws;
+        draws.action(alloc, self.kind)
+    }
+
+    // Performs it, and once more where memory ran out: the world then goes on as if there had been no call.
+    fn act<A: Plan, B: Ledger, C: Ledger, R: Wait>(
+        &self,
+        rt: &R,
+        alloc: Global,
+        world: &World<A, B, C, NoPause>,
+        pass: &mut WorldPass<A, B, C>,
+    ) -> Result<Outcome, NoMemory> {
+        match world.act(rt, pass, self.action(alloc)?) {
+            Ok(outcome) => Ok(outcome),
+            Err(NoMemory) => world.act(rt, pass, self.action(alloc)?),
+        }
+    }
+}
+
 // So many drawn steps in both worlds.
 fn run_both<A: Plan, B: Ledger, C: Ledger, R: Wait>(
     rt: &R,
@@ -44,12 +72,12 @@ fn run_both<A: Plan, B: Ledger, C: Ledger, R: Wait>(
     let mut tags = [0u64; 10];
     for step in 0..steps {
         let v = draws.below(passes.len() as u64) as usize;
-        let kind = Kind::of(scripts.parts.get(v).actor);
-        let mut again = draws;
-        let first = draws.action(alloc, kind)?;
-        let second = again.action(alloc, kind)?;
-        let plain = flat.act(v as u32, first)?;
-        let shared = world.act(rt, &mut passes[v], second)?;
+        let next = Next {
+            draws,
+            kind: Kind::of(scripts.parts.get(v).actor),
+        };
+        let plain = flat.act(v as u32, draws.action(alloc, next.kind)?)?;
+        let shared = next.act(rt, alloc, &world, &mut passes[v])?;
         let tag = crate::short::short_of(&shared).tag as usize;
         if tag < 10 {
             tags[tag] = tags[tag].wrapping_add(1);
