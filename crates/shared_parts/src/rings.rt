@@ -92,12 +92,15 @@ impl Rings {
         Some(gate.get_mut())
     }
 
-    /// Makes a ring with the next serial on these pages, under a key that has none. Where it cannot be put into the table, the pages come
-    /// back as they were.
+    /// Makes a ring with the next serial on these pages. Where it cannot be put into the table, the pages come back as they were: where
+    /// memory runs out, or its key has a ring, or the table is full.
     pub fn make(&mut self, id: RingId, len: u32, row: PageRow) -> Result<(), PageRow>
         requires legal { IsTrue (is_legal len) }
         requires pages { length row ≡ page_count len }
     {
+        if self.has_ring(id.key()) {
+            return Err(row);
+        }
         let word = tx_word(&row);
         let ring = Ring::new(self.alloc, id, len, row);
         match self

@@ -1,8 +1,10 @@
 //! Messages and questions to rings of other domains.
-ghost use Rattle.std.specs.Prelude.{◌≡◌, ◌<◌, [], ◌∷◌, IsTrue, IfOk, OnErr};
+ghost use Rattle.std.specs.Prelude.{◌≡◌, ◌<◌, ◌||◌, [], ◌∷◌, IsTrue, IfOk, OnErr};
+ghost use Rattle.argo_base.specs.declared.errno.Errno.TheVariants.{ConnRefused};
 ghost use Rattle.argo_model.specs.declared.action.Action.TheVariants.{Deliver, Query};
 ghost use Rattle.argo_model.specs.declared.scripts.Actor.TheVariants.{Vcpu};
 ghost use Rattle.argo_model.specs.Rules.Fit.{is_fit_load};
+ghost use Rattle.argo_model.specs.Rules.Outcomes.{is_refused};
 ghost use Rattle.argo_model.specs.Rules.Possible.{is_possible};
 ghost use Rattle.argo_board.specs.Board.{most_steps};
 ghost use Rattle.ring_core.specs.Offers.{outcome_of as the_outcome};
@@ -76,30 +78,31 @@ impl<A: Plan, B: Ledger, C: Ledger, P: Pause> World<A, B, C, P> {
             offer,
         } = sent;
         let rings = receiver.live.rings.read(rt, &mut pass.held);
-        let outcome = match rings.value().find(to_port, caller.id) {
-            Some(ring) => self.offer(rt, pass, caller, ring, offer),
-            None => self.note(rt, pass, Outcome::Refused(Errno::ConnRefused)),
-        };
+        let met = rings.value().find(to_port, caller.id);
+        let outcome = self.offer(rt, pass, caller, met, offer);
         rings.release(&mut pass.held);
         outcome
     }
 
-    // Offers a message to the ring that the caller meets.
+    // Offers a message to the ring that the caller meets, where it meets one.
     fn offer<R: Wait>(
         &self,
         rt: &R,
         pass: &mut WorldPass<A, B, C>,
         caller: &Party<'_>,
-        ring: &Gate<Ring, 3>,
+        met: Option<&Gate<Ring, 3>>,
         offer: Offer,
     ) -> Result<Outcome, NoMemory>
         requires held { pass.old.held ≡ 1 ∷ 2 ∷ [] }
         requires few { pass.old.tally.steps < most_steps }
         requires short { IsTrue (is_fit_load offer.load) }
-        ensures can { IfOk result (λ o. IsTrue (is_offered offer.load o)) }
+        ensures can { IfOk result (λ o. IsTrue (is_offered offer.load o || is_refused (ConnRefused ∷ []) o)) }
         ensures pass { IfOk result (λ o. pass.new ≡ stepped pass.old o) }
         ensures err { OnErr result (pass.new ≡ pass.old) }
     {
+        let Some(ring) = met else {
+            return self.note(rt, pass, Outcome::Refused(Errno::ConnRefused));
+        };
         let mut part = ring.lock(rt, &mut pass.held);
         let outcome = self.offer_to(rt, pass, caller, part.value_mut(), offer);
         part.release(&mut pass.held);
@@ -165,21 +168,19 @@ impl<A: Plan, B: Ledger, C: Ledger, P: Pause> World<A, B, C, P> {
             return self.note(rt, pass, Outcome::Answer(NO_ANSWER));
         }
         let rings = owner.live.rings.read(rt, &mut pass.held);
-        let outcome = match rings.value().find(asked.to_port, caller.id) {
-            Some(ring) => self.ask(rt, pass, caller, ring, asked.need),
-            None => self.note(rt, pass, Outcome::Answer(NO_ANSWER)),
-        };
+        let met = rings.value().find(asked.to_port, caller.id);
+        let outcome = self.ask(rt, pass, caller, met, asked.need);
         rings.release(&mut pass.held);
         outcome
     }
 
-    // Asks the ring that the caller meets.
+    // Asks the ring that the caller meets, where it meets one.
     fn ask<R: Wait>(
         &self,
         rt: &R,
         pass: &mut WorldPass<A, B, C>,
         caller: &Party<'_>,
-        ring: &Gate<Ring, 3>,
+        met: Option<&Gate<Ring, 3>>,
         need: u32,
     ) -> Result<Outcome, NoMemory>
         requires held { pass.old.held ≡ 1 ∷ 2 ∷ [] }
@@ -188,6 +189,9 @@ impl<A: Plan, B: Ledger, C: Ledger, P: Pause> World<A, B, C, P> {
         ensures pass { IfOk result (λ o. pass.new ≡ stepped pass.old o) }
         ensures err { OnErr result (pass.new ≡ pass.old) }
     {
+        let Some(ring) = met else {
+            return self.note(rt, pass, Outcome::Answer(NO_ANSWER));
+        };
         let mut part = ring.lock(rt, &mut pass.held);
         let outcome = self.ask_of(rt, pass, caller, part.value_mut(), need);
         part.release(&mut pass.held);

@@ -135,17 +135,36 @@ impl<A: Plan, B: Ledger, C: Ledger, P: Pause> World<A, B, C, P> {
         ensures pass { IfOk result (λ o. pass.new ≡ stepped pass.old o) }
         ensures err { OnErr result (pass.new ≡ pass.old) }
     {
-        let part = self.domains.read(rt, &mut pass.held);
-        let domains = part.value();
-        let outcome = match actor {
-            Actor::Vcpu(dom, generation) => match domains.caller(dom, generation) {
-                Some(caller) => self.vcpu_act(rt, pass, domains, &caller, a),
-                None => self.note(rt, pass, Outcome::Gone),
-            },
-            Actor::Control => self.note(rt, pass, Outcome::Done),
-        };
-        part.release(&mut pass.held);
+        let domains = self.domains.read(rt, &mut pass.held);
+        let outcome = self.actor_act(rt, pass, domains.value(), actor, a);
+        domains.release(&mut pass.held);
         outcome
+    }
+
+    // Performs such an action of whoever acts, where it is not gone. The control section rests.
+    fn actor_act<R: Wait>(
+        &self,
+        rt: &R,
+        pass: &mut WorldPass<A, B, C>,
+        domains: &Domains<A>,
+        actor: Actor,
+        a: Action,
+    ) -> Result<Outcome, NoMemory>
+        requires held { pass.old.held ≡ 1 ∷ [] }
+        requires few { pass.old.tally.steps < most_steps }
+        requires fit { IsTrue (is_fit_for actor a) }
+        requires known { IsTrue (is_known_actor A.facts.domains actor) }
+        ensures possible { IfOk result (λ o. IsTrue (is_possible A.facts actor a o)) }
+        ensures pass { IfOk result (λ o. pass.new ≡ stepped pass.old o) }
+        ensures err { OnErr result (pass.new ≡ pass.old) }
+    {
+        let Actor::Vcpu(dom, generation) = actor else {
+            return self.note(rt, pass, Outcome::Done);
+        };
+        let Some(caller) = domains.caller(dom, generation) else {
+            return self.note(rt, pass, Outcome::Gone);
+        };
+        self.vcpu_act(rt, pass, domains, &caller, a)
     }
 
     // Performs an action of a virtual CPU for which the domains are read.
