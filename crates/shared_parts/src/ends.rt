@@ -133,9 +133,14 @@ impl<A: Plan> Domains<A> {
 
     // Takes a ring that has ended off each list that names it.
     fn unlist(&mut self, id: RingId, notices: &Notices) {
-        if !id.partner.is_any() {
-            return self.drop_send(id);
+        if id.partner.is_any() {
+            self.drop_wilds(id, notices);
+        } else {
+            self.drop_send(id);
         }
+    }
+
+    fn drop_wilds(&mut self, id: RingId, notices: &Notices) {
         for notice in notices.as_slice() {
             self.drop_wild(notice.0, id);
         }

@@ -133,10 +133,24 @@ impl<A: Plan, B: Ledger, C: Ledger, P: Pause> World<A, B, C, P> {
         requires { IsAboveAll 5 pass.old.held }
         ensures { pass.new ≡ pass.old }
     {
-        if !id.partner.is_any() {
-            return;
+        if id.partner.is_any() {
+            self.unlist_doms(rt, pass, domains, id, ended);
         }
-        for dom in ended {
+    }
+
+    // Takes a wildcard ring off the lists of these domains.
+    fn unlist_doms<R: Wait>(
+        &self,
+        rt: &R,
+        pass: &mut WorldPass<A, B, C>,
+        domains: &Domains<A>,
+        id: RingId,
+        doms: &[DomId],
+    )
+        requires { IsAboveAll 5 pass.old.held }
+        ensures { pass.new ≡ pass.old }
+    {
+        for dom in doms {
             self.unlist_one(rt, pass, domains, id, *dom);
         }
     }
@@ -173,9 +187,25 @@ impl<A: Plan, B: Ledger, C: Ledger, P: Pause> World<A, B, C, P> {
         requires { IsAboveAll 4 pass.old.held }
         ensures { pass.new ≡ pass.old }
     {
-        if !id.partner.is_any() {
-            return self.unlist_ring(rt, pass, domains, id);
+        if id.partner.is_any() {
+            self.unlist_notices(rt, pass, domains, id, notices);
+        } else {
+            self.unlist_ring(rt, pass, domains, id);
         }
+    }
+
+    // Takes a wildcard ring off the lists of all that had notices there.
+    fn unlist_notices<R: Wait>(
+        &self,
+        rt: &R,
+        pass: &mut WorldPass<A, B, C>,
+        domains: &Domains<A>,
+        id: RingId,
+        notices: &Notices,
+    )
+        requires { IsAboveAll 5 pass.old.held }
+        ensures { pass.new ≡ pass.old }
+    {
         for notice in notices.as_slice() {
             self.unlist_one(rt, pass, domains, id, notice.0);
         }

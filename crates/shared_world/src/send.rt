@@ -96,7 +96,8 @@ impl<A: Plan, B: Ledger, C: Ledger, P: Pause> World<A, B, C, P> {
         requires held { pass.old.held ≡ 1 ∷ 2 ∷ [] }
         requires few { pass.old.tally.steps < most_steps }
         requires short { IsTrue (is_fit_load offer.load) }
-        ensures can { IfOk result (λ o. IsTrue (is_offered offer.load o || is_refused (ConnRefused ∷ []) o)) }
+        ensures can { IfOk result
+            (λ o. IsTrue (is_offered offer.load o || is_refused (ConnRefused ∷ []) o)) }
         ensures pass { IfOk result (λ o. pass.new ≡ stepped pass.old o) }
         ensures err { OnErr result (pass.new ≡ pass.old) }
     {
