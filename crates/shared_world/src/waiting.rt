@@ -1,4 +1,6 @@
 //! Who is to wait for room in a ring.
+ghost use Rattle.std.specs.Prelude.{◌≡◌};
+
 use argo_base::{DomId, DomList, MOST_NOTICES, slots};
 use argo_model::{Answer, Load};
 use ring_core::Ring;
@@ -35,7 +37,9 @@ pub(crate) fn size_of(load: &Load) -> Option<u32> {
 }
 
 /// The same domains once more.
-pub(crate) fn copy_of(doms: &DomList) -> DomList {
+pub(crate) fn copy_of(doms: &DomList) -> DomList
+    ensures { result ≡ doms.now }
+{
     let mut copy = DomList::new();
     for dom in doms.as_slice() {
         copy.push(*dom);
