@@ -12,6 +12,7 @@ use pending_list::Notices;
 use ring_table::MOST_ROWS;
 use std::alloc::Global;
 
+#[tactic(auto, using(std::proofs::lemmas::Map::Steps::set_value_same))]
 impl<A: Plan> Domains<A> {
     /// Ends the rings of a domain, the rings that others have for it alone, and its notices. It takes no memory.
     pub fn reset(&mut self, dom: DomId) {

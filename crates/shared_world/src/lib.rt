@@ -19,8 +19,6 @@ mod registration;
 mod send;
 mod short;
 mod sweeps;
-#[cfg(test)]
-mod tests;
 mod unregisters;
 mod waiting;
 mod world;

@@ -1,7 +1,7 @@
 //! Whether outcomes, and domains as they stand, are the same.
-use crate::short::short_of;
 use argo_base::Message;
 use argo_model::{ClosedDomain, ClosedDomains, ClosedRing, Outcome};
+use vcpu_machine::short_of;
 
 pub(super) fn outcomes(a: &Outcome, b: &Outcome) -> bool {
     match (a, b) {

@@ -3,17 +3,18 @@ mod actions;
 mod same;
 mod scripts;
 
-use crate::{Blanks, Closed, NoPause, World, WorldPass};
 use actions::{Draws, Kind};
 use argo_base::NoMemory;
 use argo_model::{Access, Action, Heard, Outcome, Scripts};
 use flat_world::FlatWorld;
 use shared_parts::Plan;
+use shared_world::{Blanks, Closed, NoPause, World, WorldPass};
 use std::alloc::Global;
 use std::marker::Brand;
 use std::sync::Wait;
 use std::sync::ledger::{Blank, Ledger};
 use std::test::Fail;
+use vcpu_machine::short_of;
 
 /// What came of a run in both worlds.
 #[derive(Drop)]
@@ -78,7 +79,7 @@ fn run_both<A: Plan, B: Ledger, C: Ledger, R: Wait>(
         };
         let plain = flat.act(v as u32, draws.action(alloc, next.kind)?)?;
         let shared = next.act(rt, alloc, &world, &mut passes[v])?;
-        let tag = crate::short::short_of(&shared).tag as usize;
+        let tag = short_of(&shared).tag as usize;
         if tag < 10 {
             tags[tag] = tags[tag].wrapping_add(1);
         }
