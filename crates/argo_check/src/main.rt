@@ -1,8 +1,9 @@
 //! The program: a script and its report come in, and whether the report is right goes out.
 //!
 //! `check` does all that the program does: it answers yes exactly where the report's bytes are those of the report of the script under
-//! a complete schedule, and else the first line that is wrong. `end_of` says what the last flush leaves of that. It stands on
-//! argo_machine, by which it replays the schedule that the report names, and on the crates for texts.
+//! a complete schedule, and else the first line that is wrong. For the words `why V K` it tells after yes the steps of line K of section
+//! V, and its reply. `end_of` says what the last flush leaves of that. It stands on argo_machine, by which it replays the schedule that
+//! the report names, and on the crates for texts.
 #![tactic(auto)]
 
 mod comparer;
