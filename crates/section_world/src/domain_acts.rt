@@ -58,7 +58,13 @@ pub trait DomainActs: Sized + Drop {
         ensures err { OnErr result (state self.new ≡ state self.old) };
 
     /// A caller takes a ring away.
-    fn unregister(&mut self, alloc: Global, dom: DomId, generation: u32, key: RingKey) -> Result<Outcome, NoMemory>
+    fn unregister(
+        &mut self,
+        alloc: Global,
+        dom: DomId,
+        generation: u32,
+        key: RingKey,
+    ) -> Result<Outcome, NoMemory>
         ensures ok { IfOk result
             (λ o. act (Vcpu dom generation) (Unregister key.port key.partner) (state self.old)
             ≡ record { outcome = o; state = state self.new }) }

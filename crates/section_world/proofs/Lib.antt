@@ -1,0 +1,5 @@
+pub mod TestLaws
+pub mod EntryLaws
+pub mod YoungLaws
+pub mod OutcomeLaws
+pub mod SectionLaws

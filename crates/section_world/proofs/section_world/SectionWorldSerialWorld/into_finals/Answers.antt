@@ -1,0 +1,7 @@
+use Rattle.section_world.proofs.SectionLaws.{shown}
+use Rattle.section_world.proofs.section_world.SectionWorldSerialWorld.into_finals.Goals as goal
+
+pub into_finals-requires : goal.into_finals-requires
+into_finals-requires g c =
+    let m = c.self.inside in
+    shown (record { state = g.D.DomainActs.state m.domains; actors = m.actors.items; totals = m.totals.items }) c.self.invariant (rw (← c.self.view_is) at c.requires)
