@@ -10,7 +10,7 @@ use Rattle.flat_live.specs.Memory.{are_there, stand_in}
 use Rattle.flat_live.proofs.LiveLaws.{found_stands, written_stands, lifted_after, ring_written, ring_back, in_any_case}
 use Rattle.flat_live.proofs.OfferLaws.{memory_kept}
 use Rattle.argo_model.specs.Rules.Query.{query_match, query_ring, request}
-use Rattle.flat_live.proofs.live.Live.answer.Goals as goal
+use Rattle.flat_live.proofs.live.LiveLiveDomain.answer.Goals as goal
 
 pub answer-requires : goal.answer-requires
 answer-requires c =

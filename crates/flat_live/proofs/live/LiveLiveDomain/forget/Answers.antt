@@ -4,7 +4,7 @@ use Rattle.argo_model.specs.Rules.State.{Live}
 use Rattle.argo_model.specs.Rules.Destroy.{ring_without, rings_without, live_without}
 use Rattle.flat_live.specs.Memory.{stand_in}
 use Rattle.flat_live.proofs.LiveLaws.{forget_stands}
-use Rattle.flat_live.proofs.live.Live.forget.Goals as goal
+use Rattle.flat_live.proofs.live.LiveLiveDomain.forget.Goals as goal
 
 pub invariant_of-self : goal.invariant_of-self
 invariant_of-self c =

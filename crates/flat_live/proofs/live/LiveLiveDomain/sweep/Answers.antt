@@ -11,8 +11,8 @@ use Rattle.flat_live.proofs.LiveLaws.{found_stands, written_stands, lifted_after
 use Rattle.flat_live.proofs.OfferLaws.{memory_kept}
 use Rattle.argo_model.specs.Rules.Sweep.{next_ring, sweep_found, sweep_ring}
 use Rattle.flat_live.proofs.NextRingLaws.{next_at, next_is_there}
-use Rattle.flat_live.proofs.live.Live.sweep.Goals as goal
-use Rattle.flat_live.proofs.live.Live.sweep.Goals.{In_default-get_mut}
+use Rattle.flat_live.proofs.live.LiveLiveDomain.sweep.Goals as goal
+use Rattle.flat_live.proofs.live.LiveLiveDomain.sweep.Goals.{In_default-get_mut}
 
 there_is : (c : In_default-get_mut) → ⊥
 there_is c =

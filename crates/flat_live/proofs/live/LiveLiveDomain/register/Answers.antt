@@ -3,7 +3,7 @@ use Rattle.argo_model.specs.Rules.State.{Live}
 use Rattle.argo_model.specs.Rules.Effects.{Change, after}
 use Rattle.argo_model.specs.Rules.Register.{are_free_for}
 use Rattle.flat_live.proofs.RegisterLaws.{own_allowed}
-use Rattle.flat_live.proofs.live.Live.register.Goals as goal
+use Rattle.flat_live.proofs.live.LiveLiveDomain.register.Goals as goal
 
 pub returns-clause-outcome : goal.returns-clause-outcome
 returns-clause-outcome c =

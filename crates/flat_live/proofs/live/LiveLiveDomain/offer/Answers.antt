@@ -10,7 +10,7 @@ use Rattle.flat_live.specs.Memory.{stand_in}
 use Rattle.flat_live.proofs.LiveLaws.{found_stands, written_stands, lifted_after, ring_written, ring_back, in_any_case}
 use Rattle.argo_model.specs.Rules.Deliver.{Offer, offer_to_match, offer_to_live, offer as offer_to_ring}
 use Rattle.flat_live.specs.Offers.{offered}
-use Rattle.flat_live.proofs.live.Live.offer.Goals as goal
+use Rattle.flat_live.proofs.live.LiveLiveDomain.offer.Goals as goal
 
 pub offer-requires-clause-there : goal.offer-requires-clause-there
 offer-requires-clause-there c =
