@@ -27,7 +27,7 @@ use Rattle.argo_model.specs.Rules.Register.{is_single, has_ring, without_ring, r
 use Rattle.live_domain.specs.Own.{is_own, own_change, take_away}
 use Rattle.domains.specs.Domain.{own_if_live, sweep_if_live, with_left}
 use Rattle.section_world.specs.Acts.{caller_on, on_if_live, on_if_there}
-use Rattle.section_world.specs.Young.{is_young_life, is_young_domain, IsYoung}
+use Rattle.section_world.specs.Young.{is_young_life, is_young_domain}
 use Rattle.live_domain.specs.declared.registration.Registration.{Registration}
 use Rattle.domains.specs.World.{accepted_signals, register_change, registered, registered_if_live, registered_if_there}
 use Rattle.section_world.proofs.TestLaws.{both}
