@@ -1,3 +1,4 @@
 pub mod WordLemmas
 pub mod WroteLemmas
 pub mod HexLemmas
+pub mod RowLaws

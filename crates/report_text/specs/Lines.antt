@@ -1,6 +1,7 @@
 -- The text of each kind of line.
-use Rattle.std.specs.Prelude.{ℕ, List}
-use Rattle.argo_model.specs.Runs.Report.{opening_line, summary_line, schedule_line, done_line, domain_line, ring_line, message_line, notice_line, slots_line, totals_line, end_line}
+use Rattle.std.specs.Prelude.{ℕ, ◌*◌, List}
+use Rattle.std.specs.List.{flat_map, range_with_len}
+use Rattle.argo_model.specs.Runs.Report.{opening_line, summary_line, schedule_line, done_line, domain_line, ring_line, message_line, notice_line, slots_at, slots_line, totals_line, end_line}
 use Rattle.report_text.specs.declared.line.ReportLine.{ReportLine}
 use Rattle.report_text.specs.declared.line.ReportLine.TheVariants.{Opening, SummaryOpening, Schedule, Done, Domain, Ring, Message, Notice, Slots, Totals, End}
 
@@ -16,3 +17,7 @@ text_of (Notice notice) = notice_line notice.now
 text_of (Slots at row) = slots_line at row.now
 text_of (Totals vcpu totals) = totals_line (vcpu, totals.now)
 text_of End = end_line
+
+-- n rows of the slots, from a number on
+abbrev pub rows_text : List ℕ → ℕ → ℕ → List ℕ
+rows_text slots from n = flat_map (λ k. slots_at slots (32 * k)) (range_with_len from n)

@@ -1,10 +1,11 @@
-ghost use Rattle.std.specs.Prelude.{◌≡◌, ◌≤◌, ◌==◌, OnOk, OnErr, IsErrOf, flat_map, length, take, drop};
+ghost use Rattle.std.specs.Prelude.{◌≡◌, ◌+◌, ◌-◌, ◌<◌, ◌≤◌, ◌==◌, OnOk, OnErr, IsErrOf, flat_map, length, take, drop};
+ghost use Rattle.std.specs.Int.{div_ceil};
 ghost use Rattle.std.specs.List.{list_all};
 ghost use Rattle.argo_outside.specs.Faults.{Rose};
 ghost use Rattle.argo_outside.specs.Sink.{appended, CutShort};
 ghost use Rattle.argo_model.specs.Runs.Report.{report_of, summary_of, closing_text, domain_text, ring_text, message_lines, message_line, notice_line, done_line, slots_lines, shown_row, totals_lines};
 ghost use Rattle.report_text.specs.Wrote.{Wrote};
-ghost use Rattle.report_text.specs.Lines.{text_of};
+ghost use Rattle.report_text.specs.Lines.{rows_text, text_of};
 
 use crate::WriteFault;
 use crate::line::ReportLine;
@@ -15,6 +16,13 @@ use std::alloc::Global;
 
 /// The slot bytes of a line.
 const ROW_BYTES: usize = 32;
+
+/// The rows that are looked at together.
+const BLOCK_ROWS: usize = 128;
+
+const BLANK_BYTES: usize = ROW_BYTES * BLOCK_ROWS;
+
+const BLANK: [u8; BLANK_BYTES] = [0; BLANK_BYTES];
 
 /// Writes a report, by one call of `write_whole` a line. It keeps the memory of the longest line and no more.
 pub fn write_report<K: Sink>(alloc: Global, out: &mut K, f: &Final) -> Result<(), WriteFault>
@@ -174,19 +182,46 @@ fn write_notices<K: Sink>(
 fn write_slots<K: Sink>(out: &mut K, text: &mut String, slots: &[u8]) -> Result<(), WriteFault>
     ensures { Wrote K.written K.faults out.old out.new (slots_lines slots.now) result }
 {
-    for k in 0..slots.len().div_ceil(ROW_BYTES) {
-        let at = ROW_BYTES * k;
-        write_row(out, text, at, row_at(slots, at))?;
+    let rows = slots.len().div_ceil(ROW_BYTES);
+    let mut from = 0;
+    'blocks: while from < rows {
+        let to = rows.min(from + BLOCK_ROWS);
+        write_rows(out, text, slots, from, to)?;
+        from = to;
     }
     Ok(())
 }
 
-fn row_at(slots: &[u8], at: usize) -> &[u8]
+// The rows of these numbers. A ring is mostly zeros, so they are looked at together first.
+fn write_rows<K: Sink>(
+    out: &mut K,
+    text: &mut String,
+    slots: &[u8],
+    from: usize,
+    to: usize,
+) -> Result<(), WriteFault>
+    requires order { from < to }
+    requires few { to ≤ from + BLOCK_ROWS }
+    requires inside { to ≤ div_ceil (length slots.now) 32 }
+    ensures { Wrote K.written K.faults out.old out.new (rows_text slots.now from (to - from)) result }
+{
+    if is_blank(rows_at(slots, ROW_BYTES * from, ROW_BYTES * (to - from))) {
+        return Ok(());
+    }
+    for k in from..to {
+        let at = ROW_BYTES * k;
+        write_row(out, text, at, rows_at(slots, at, ROW_BYTES))?;
+    }
+    Ok(())
+}
+
+// So many bytes from a place on, or what is left there.
+fn rows_at(slots: &[u8], at: usize, n: usize) -> &[u8]
     requires { at ≤ length slots.now }
-    ensures { result.now ≡ take 32 (drop at slots.now) }
+    ensures { result.now ≡ take n (drop at slots.now) }
 {
     let (_, rest) = slots.split_at(at);
-    let (row, _) = rest.split_at(ROW_BYTES.min(rest.len()));
+    let (row, _) = rest.split_at(n.min(rest.len()));
     row
 }
 
@@ -196,6 +231,7 @@ fn write_row<K: Sink>(
     at: usize,
     row: &[u8],
 ) -> Result<(), WriteFault>
+    requires { length row.now ≤ ROW_BYTES }
     ensures { Wrote K.written K.faults out.old out.new (shown_row at row.now) result }
 {
     if is_blank(row) {
@@ -205,10 +241,12 @@ fn write_row<K: Sink>(
     }
 }
 
-fn is_blank(row: &[u8]) -> bool
-    ensures { result ≡ list_all (λ b. b == 0) row.now }
+// Whether all bytes of some rows are zero.
+fn is_blank(bytes: &[u8]) -> bool
+    requires { length bytes.now ≤ BLANK_BYTES }
+    ensures { result ≡ list_all (λ b. b == 0) bytes.now }
 {
-    row.iter().all(|byte| *byte == 0)
+    bytes == &BLANK[..bytes.len()]
 }
 
 fn write_closing<K: Sink>(out: &mut K, text: &mut String, f: &Final) -> Result<(), WriteFault>

@@ -1,39 +1,32 @@
-use Rattle.std.proofs.Common.{◌≡◌, ℕ, ◌*◌, ◌<◌, length, get_or, rules, arith}
-use Rattle.std.specs.List.{range_with_len}
-use Rattle.std.specs.Int.{div_ceil}
-use Rattle.std.proofs.lemmas.List.FromFn.{length-range_with_len, get_or-range_with_len}
-use Rattle.argo_model.specs.Runs.Report.{slots_at}
-use Rattle.report_text.proofs.WroteLemmas.{Wrote-all, Wrote-one_more, Wrote-stop_in}
+use Rattle.std.proofs.Common.{◌≡◌, ◌-◌, ◌≤◌, ◌++◌, Ok, ap, ◌∙◌, subst, rules, arith}
+use Rattle.report_text.proofs.RowLaws.{rows_then}
+use Rattle.report_text.proofs.WroteLemmas.{Wrote-then, Wrote-stop}
+use Rattle.argo_model.specs.Runs.Report.{slots_lines}
+use Rattle.report_text.specs.Lines.{rows_text}
+use Rattle.report_text.specs.Wrote.{Wrote}
 use Rattle.report_text.proofs.report.write_slots.Goals as goal
 
--- the number of a row is its place among all
-range_with_len-item : (n k : ℕ) → k < n → k ≡ get_or (range_with_len 0 n) k k
-range_with_len-item n k below = rw get_or-range_with_len (omega arith)
-
-range_with_len-below : (n k : ℕ) → k < n → k < length (range_with_len 0 n)
-range_with_len-below n k below = rw length-range_with_len below
-
-pub returns-in_err-write_row : goal.returns-in_err-write_row
-returns-in_err-write_row g c =
+pub returns-in_err-write_rows : goal.returns-in_err-write_rows
+returns-in_err-write_rows g c =
     let slots = c.args.slots.now in
-    let rows = div_ceil (length slots) 32 in
-    let below : c.loop-k.k < rows = omega (arith, c.loop-k-test.true, c.div_ceil-k-end.ensures) in
-    let row = rw c.row_at.ensures at c.write_row.ensures in
-    Wrote-stop_in (λ k. slots_at slots (32 * k)) (range_with_len 0 rows) (range_with_len-below rows c.loop-k.k below) (range_with_len-item rows c.loop-k.k below)
-    c.loop-k.invariant c.from_residual.result _ c.in_err-write_row.was (search rules) row
+    let from = c.blocks-2.from in
+    let to = c.min-to.result in
+    let rows = c.div_ceil-rows.result in
+    let low : from ≤ to = omega (arith, c.blocks-2-test.true, c.min-to.ensures) in
+    let high : to ≤ rows = omega (arith, c.min-to.ensures) in
+    let text : (rows_text slots 0 from ++ rows_text slots from (to - from)) ++ rows_text slots to (rows - to) ≡ slots_lines slots =
+    ap (λ t. t ++ rows_text slots to (rows - to)) (rows_then slots from to low) ∙ rows_then slots to rows high ∙ ap (rows_text slots 0) c.div_ceil-rows.ensures in
+    subst (λ t. Wrote g.K.Sink.written g.K.Sink.faults c.args.out.now c.write_rows.new.out t c.from_residual.result) text
+    (Wrote-stop c.from_residual.result (rows_text slots to (rows - to)) _ c.in_err-write_rows.was (search rules) (Wrote-then c.blocks-2.invariant.0 c.write_rows.ensures))
 
-pub loop-k-preserved : goal.loop-k-preserved
-loop-k-preserved g c =
+pub blocks-2-preserved : goal.blocks-2-preserved
+blocks-2-preserved g c =
     let slots = c.args.slots.now in
-    let rows = div_ceil (length slots) 32 in
-    let below : c.loop-k.k < rows = omega (arith, c.loop-k-test.true, c.div_ceil-k-end.ensures) in
-    let row = rw c.row_at.ensures at c.in_ok-write_row.ensures in
-    Wrote-one_more (λ k. slots_at slots (32 * k)) (range_with_len 0 rows) (range_with_len-below rows c.loop-k.k below) (range_with_len-item rows c.loop-k.k below)
-    c.loop-k.invariant row
-
-pub returns : goal.returns
-returns g c =
-    let slots = c.args.slots.now in
-    let rows = div_ceil (length slots) 32 in
-    Wrote-all (λ k. slots_at slots (32 * k)) (range_with_len 0 rows)
-    (rw length-range_with_len (omega (arith, c.loop-k-test.false, c.div_ceil-k-end.ensures))) c.loop-k.invariant
+    let from = c.blocks-2.from in
+    let to = c.min-to.result in
+    let low : from ≤ to = omega (arith, c.blocks-2-test.true, c.min-to.ensures) in
+    let high : to ≤ c.div_ceil-rows.result = omega (arith, c.min-to.ensures) in (
+      subst (λ t. Wrote g.K.Sink.written g.K.Sink.faults c.args.out.now c.write_rows.new.out t (Ok tt)) (rows_then slots from to low)
+          (Wrote-then c.blocks-2.invariant.0 c.in_ok-write_rows.ensures),
+      high,
+    )

@@ -1,12 +1,12 @@
 -- The rows so far are written.
-use Rattle.std.proofs.Common.{Ok, ◌*◌, length, take}
-use Rattle.std.specs.List.{flat_map, range_with_len}
-use Rattle.std.specs.Int.{div_ceil}
-use Rattle.argo_model.specs.Runs.Report.{slots_at}
+use Rattle.std.proofs.Common.{Ok, ◌-◌, ◌≤◌}
+use Rattle.report_text.specs.Lines.{rows_text}
 use Rattle.report_text.specs.Wrote.{Wrote}
 use Rattle.report_text.proofs.report.write_slots.Given as goal
 
-abbrev pub invariant-loop-k : goal.invariant-loop-k
-invariant-loop-k g l =
-    Wrote g.K.Sink.written g.K.Sink.faults l.initial.out l.out
-    (flat_map (λ k. slots_at l.slots (32 * k)) (take l.k (range_with_len 0 (div_ceil (length l.slots) 32)))) (Ok tt)
+abbrev pub invariant-blocks-2 : goal.invariant-blocks-2
+invariant-blocks-2 g l =
+    Wrote g.K.Sink.written g.K.Sink.faults l.initial.out l.out (rows_text l.slots 0 l.from) (Ok tt) × l.from ≤ l.rows
+
+abbrev pub decreases-blocks-2 : goal.decreases-blocks-2
+decreases-blocks-2 g l = l.rows - l.from
