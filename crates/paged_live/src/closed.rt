@@ -17,6 +17,7 @@ use std::collections::VecDeque;
 pub(crate) fn rings_of(alloc: Global, rings: &Table<Ring>) -> Result<ClosedRings, NoMemory>
     ensures { IfOk result (λ closed. closed ≡ map closing.closed_of rings.now) }
 {
+    rings.count();
     let serials = rings.serials(alloc)?;
     let mut closed = ClosedRings::new(alloc);
     for (key, _) in &serials {

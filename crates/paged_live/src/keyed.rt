@@ -19,7 +19,9 @@ impl KeyedRings for Live {
     }
 
     fn next_ring(&self, after: u64) -> Option<RingKey> {
-        let row = self.rings.after(after)?;
+        let Some(row) = self.rings.after(after) else {
+            return None;
+        };
         Some(row.key)
     }
 

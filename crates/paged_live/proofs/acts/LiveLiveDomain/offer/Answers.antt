@@ -14,8 +14,8 @@ returns-in_default-clause-outcome c =
     let o = c.args.sent in
     let x : Parts = record { private = i.private; homes = i.homes.items; flag = i.flag; next_serial = i.next_serial; rows = i.rings } in
     let none = match_none x.rows c.args.to_port o.sender (ap (λ (o : Offer). option_map key_in_row (match_of x.rows c.args.to_port o.sender)) (sym c.sent.view_is) ∙ sym c.match_key.ensures ∙ c.in_default.is) in
-    ap (λ m. (offer_to_match (seen x) c.args.to o m).outcome) (sym none)
-    ∙ ap (λ (l : Live). (offer_to_live c.args.to c.args.to_port o l).outcome) c.self.view_is
+    ap (λ m. (offer_to_match (seen x) c.args._to o m).outcome) (sym none)
+    ∙ ap (λ (l : Live). (offer_to_live c.args._to c.args.to_port o l).outcome) c.self.view_is
 
 pub returns-in_default-clause-left : goal.returns-in_default-clause-left
 returns-in_default-clause-left c =
@@ -24,8 +24,8 @@ returns-in_default-clause-left c =
     let x : Parts = record { private = i.private; homes = i.homes.items; flag = i.flag; next_serial = i.next_serial; rows = i.rings } in
     let none = match_none x.rows c.args.to_port o.sender (ap (λ (o : Offer). option_map key_in_row (match_of x.rows c.args.to_port o.sender)) (sym c.sent.view_is) ∙ sym c.match_key.ensures ∙ c.in_default.is) in
     sym c.self.view_is
-    ∙ ap (λ m. after (seen x) (offer_to_match (seen x) c.args.to o m)) (sym none)
-    ∙ ap (λ (l : Live). after l (offer_to_live c.args.to c.args.to_port o l)) c.self.view_is
+    ∙ ap (λ m. after (seen x) (offer_to_match (seen x) c.args._to o m)) (sym none)
+    ∙ ap (λ (l : Live). after l (offer_to_live c.args._to c.args.to_port o l)) c.self.view_is
 
 pub invariant_of-self-in_err-outcome : goal.invariant_of-self-in_err-outcome
 invariant_of-self-in_err-outcome c =
@@ -61,10 +61,10 @@ returns-clause-outcome c =
     let a = c.in-Some-find_exact_mut.ring.now in
     let f = found_value x.rows key a (sym c.find_exact_mut.ensures.value ∙ ap option_copied_mut c.in-Some-find_exact_mut.is) in
     let met = match_is x.rows c.args.to_port o.sender key a f (ap (λ (o : Offer). option_map key_in_row (match_of x.rows c.args.to_port o.sender)) (sym c.sent.view_is) ∙ sym c.match_key.ensures ∙ c.in-Some.is) in
-    c.in_ok-outcome.ensures.outcome c.args.to f.serial
-    ∙ ap (λ p. (offer p c.args.to o).outcome) (sym (paged_seen x c.self.invariant key a f))
-    ∙ ap (λ m. (offer_to_match (seen x) c.args.to o m).outcome) (sym met)
-    ∙ ap (λ (l : Live). (offer_to_live c.args.to c.args.to_port o l).outcome) c.self.view_is
+    c.in_ok-outcome.ensures.outcome c.args._to f.serial
+    ∙ ap (λ p. (offer p c.args._to o).outcome) (sym (paged_seen x c.self.invariant key a f))
+    ∙ ap (λ m. (offer_to_match (seen x) c.args._to o m).outcome) (sym met)
+    ∙ ap (λ (l : Live). (offer_to_live c.args._to c.args.to_port o l).outcome) c.self.view_is
 
 pub returns-clause-left : goal.returns-clause-left
 returns-clause-left c =
@@ -75,6 +75,6 @@ returns-clause-left c =
     let a = c.in-Some-find_exact_mut.ring.now in
     let f = found_value x.rows key a (sym c.find_exact_mut.ensures.value ∙ ap option_copied_mut c.in-Some-find_exact_mut.is) in
     let met = match_is x.rows c.args.to_port o.sender key a f (ap (λ (o : Offer). option_map key_in_row (match_of x.rows c.args.to_port o.sender)) (sym c.sent.view_is) ∙ sym c.match_key.ensures ∙ c.in-Some.is) in
-    changed_after x c.self.invariant key a c.offer_to.new.ring f c.in_ok-outcome.ensures.still (λ p. offer p c.args.to o) (c.in_ok-outcome.ensures.left c.args.to)
-    ∙ ap (λ m. after (seen x) (offer_to_match (seen x) c.args.to o m)) (sym met)
-    ∙ ap (λ (l : Live). after l (offer_to_live c.args.to c.args.to_port o l)) c.self.view_is
+    changed_after x c.self.invariant key a c.offer_to.new.ring f c.in_ok-outcome.ensures.still (λ p. offer p c.args._to o) (c.in_ok-outcome.ensures.left c.args._to)
+    ∙ ap (λ m. after (seen x) (offer_to_match (seen x) c.args._to o m)) (sym met)
+    ∙ ap (λ (l : Live). after l (offer_to_live c.args._to c.args.to_port o l)) c.self.view_is
