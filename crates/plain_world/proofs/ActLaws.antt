@@ -1,7 +1,7 @@
 -- Laws of acts, as the lists see them: which rings come and go, and whose notices.
-use Rattle.std.proofs.Common.{◌≡◌, ℕ, Bool, true, false, cond, ◌==◌, ◌&&◌, ◌||◌, not, IsTrue, IfSome, List, [], ◌∷◌, length, filter, map, max, is_some, is_none, unwrap_or, if◌then◌else◌, Option, Some, None, option_map, refl, sym, ap, ◌∙◌, subst, arith}
+use Rattle.std.proofs.Common.{◌≡◌, ℕ, Bool, true, false, cond, ◌==◌, ◌&&◌, ◌||◌, not, IsTrue, IfSome, List, [], ◌∷◌, length, max, is_some, is_none, unwrap_or, if◌then◌else◌, Option, Some, None, option_map, refl, sym, ap, ◌∙◌, subst, arith}
 use Rattle.std.specs.Option.{option_or}
-use Rattle.std.specs.Map.{lookup, set_value}
+use Rattle.std.specs.Map.{lookup}
 use Rattle.std.specs.BTreeMap.{is_at}
 use Rattle.std.proofs.lemmas.Bool.{false≢true}
 use Rattle.std.proofs.lemmas.Bool.Decides.{nat_tests}
@@ -23,9 +23,9 @@ use Rattle.argo_model.specs.Rules.Deliver.{Offer, offer, offer_load, offer_to_ma
 use Rattle.argo_model.specs.Rules.Destroy.{create, change_all, next_domain}
 use Rattle.argo_model.specs.Rules.Effects.{Change, change_in, refuse_if, refused, answered, leaving, lifted, after}
 use Rattle.argo_model.specs.Rules.Puts.{put_into, after_put}
-use Rattle.argo_model.specs.Rules.Query.{query_match, query_life, query_domain, query_ring, Request, request, no_answer}
-use Rattle.argo_model.specs.Rules.Register.{own_ring, has_number}
-use Rattle.argo_model.specs.Rules.RingBytes.{PagedRing, paged, set_paged, with_notices, free}
+use Rattle.argo_model.specs.Rules.Query.{query_match, query_life, query_domain, query_ring, Request, no_answer}
+use Rattle.argo_model.specs.Rules.Register.{own_ring}
+use Rattle.argo_model.specs.Rules.RingBytes.{PagedRing, paged, set_paged, free}
 use Rattle.argo_model.specs.Rules.State.{State, Domain, Live, Ring, domain_of, set_domain, life_in, live_of, is_alive, change_found, has_page}
 use Rattle.plain_world.specs.Touches.{is_touched}
 use Rattle.plain_world.proofs.NoticeLaws.{noted_other, withdrawn_other, key_set_other, key_set_same, key_map}

@@ -1,12 +1,12 @@
 -- Laws of a domain of which the lists name nothing any more: there is nothing to forget of it.
-use Rattle.std.proofs.Common.{◌≡◌, ◌≢◌, ℕ, ◌<◌, Bool, true, false, ◌==◌, ◌&&◌, ◌||◌, not, IsTrue, IfSome, List, [], ◌∷◌, filter, map, fold, is_some, cond, Option, Some, None, option_map, option_and_then, ⊎_elim, inl, inr, ◌⊎◌, refl, sym, ap, ◌∙◌, subst, arith}
+use Rattle.std.proofs.Common.{◌≡◌, ℕ, ◌<◌, Bool, true, false, ◌==◌, ◌&&◌, ◌||◌, not, List, [], ◌∷◌, filter, map, fold, is_some, cond, Option, Some, None, option_map, option_and_then, ⊎_elim, inl, inr, refl, sym, ap, ◌∙◌, subst, arith}
 use Rattle.std.specs.Ordering.{nat_cmp}
 use Rattle.std.specs.Map.{lookup}
 use Rattle.std.specs.BTreeMap.{is_at, insert_entry}
 use Rattle.std.proofs.lemmas.Bool.{false≢true}
 use Rattle.std.proofs.lemmas.Bool.Decides.{nat_tests}
 use Rattle.argo_base.specs.Match.{key_cmp, key_in, is_wildcard}
-use Rattle.argo_base.specs.Notices.{Notices, size_of, withdrawn}
+use Rattle.argo_base.specs.Notices.{size_of}
 use Rattle.argo_base.specs.RingIds.{has_id}
 use Rattle.argo_base.specs.declared.ring_key.RingId.{RingId}
 use Rattle.argo_base.specs.declared.ring_key.RingKey.{RingKey}
@@ -15,18 +15,18 @@ use Rattle.argo_model.specs.Rules.Destroy.{ring_without, rings_without, live_wit
 use Rattle.argo_model.specs.Rules.Register.{own_ring}
 use Rattle.argo_model.specs.Rules.State.{State, Domain, Live, Ring, domain_of, live_of, is_alive, change_life, fresh_domain, start_state}
 use Rattle.domain_lists.specs.Lists.{RingLists, ids_of, names}
-use Rattle.plain_world.specs.Levels.{Levels, AreLevel, AreSends, AreWaits}
+use Rattle.plain_world.specs.Levels.{Levels, AreLevel}
 use Rattle.plain_world.proofs.EndLaws.{removed_none}
 use Rattle.plain_world.proofs.LeftLaws.{fit_of}
 use Rattle.plain_world.proofs.RingLaws.{live_found}
 use Rattle.state_laws.specs.Each.{Each, EachTwo}
-use Rattle.state_laws.specs.Valid.{IsLive, IsRing, IsNotice, IsValid}
+use Rattle.state_laws.specs.Valid.{IsLive, IsNotice, IsValid}
 use Rattle.state_laws.proofs.Lists.{each_found}
 use Rattle.state_laws.proofs.Lives.{In, each_in, lookup_in, chosen}
 use Rattle.state_laws.proofs.Rising.{is_at_same, is_at_not, is_at_self, each_rising}
 use Rattle.state_laws.proofs.StateActs.{valid_start}
 use Rattle.live_domain.specs.Keyed.{has_notice}
-use Rattle.domains.specs.ById.{id_in, rings_in, rings_of, ring_in, ring_at, stands, is_noted}
+use Rattle.domains.specs.ById.{id_in, rings_in, ring_in, ring_at, stands, is_noted}
 
 -- a domain among others is found
 domain_in : (s : State) (e : ℕ × Domain) → EachTwo (λ (a b : ℕ × Domain). a.0 < b.0) s → In e s → domain_of s e.0 ≡ Some e.1

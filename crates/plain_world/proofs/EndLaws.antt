@@ -1,27 +1,24 @@
 -- Laws of ends: rings and notices that end one by one, and what is left then.
-use Rattle.std.proofs.Common.{◌≡◌, ◌≢◌, ℕ, ◌<◌, ◌≤◌, Bool, true, false, cond, ◌==◌, ◌&&◌, ◌||◌, not, IsTrue, IfSome, List, [], ◌∷◌, ◌++◌, length, filter, map, is_some, Option, Some, None, option_map, refl, sym, ap, ◌∙◌, subst, arith}
+use Rattle.std.proofs.Common.{◌≡◌, ℕ, ◌<◌, Bool, true, false, cond, ◌==◌, not, IfSome, List, [], ◌∷◌, filter, map, Option, Some, None, option_map, refl, sym, ap, ◌∙◌, subst}
 use Rattle.std.specs.Ordering.{nat_cmp}
 use Rattle.std.specs.Map.{lookup, set_value, remove_entry}
 use Rattle.std.specs.BTreeMap.{is_at}
 use Rattle.std.proofs.lemmas.Map.Steps.{set_value_same}
-use Rattle.argo_base.specs.Limits.{most_notices}
 use Rattle.argo_base.specs.Match.{key_cmp, key_in}
-use Rattle.argo_base.specs.Notices.{Notices, size_of, withdrawn}
+use Rattle.argo_base.specs.Notices.{Notices, withdrawn}
 use Rattle.argo_base.specs.declared.ring_key.RingId.{RingId}
 use Rattle.argo_base.specs.declared.ring_key.RingKey.{RingKey}
 use Rattle.argo_model.specs.Rules.Destroy.{ring_without, rings_without, live_without, forget, gone_domain, reset_live}
 use Rattle.argo_model.specs.Rules.Register.{own_ring, without_ring}
-use Rattle.argo_model.specs.Rules.State.{State, Domain, Live, Ring, domain_of, set_domain, live_of, is_alive, change_found, change_domain, change_life}
+use Rattle.argo_model.specs.Rules.State.{State, Domain, Live, Ring, domain_of, set_domain, is_alive, change_found, change_domain, change_life}
 use Rattle.plain_world.specs.Ends.{EndSame}
-use Rattle.plain_world.proofs.RingLaws.{ring_set, live_found, live_here}
-use Rattle.state_laws.specs.Each.{Each, EachTwo}
-use Rattle.state_laws.specs.Valid.{IsLive, IsRing, IsNotice, AreApart, KeepsUntaken, IsValid}
-use Rattle.state_laws.proofs.Domains.{IsFit, kept_change, valid_kept, fit_found, get_map, get_set_same}
-use Rattle.state_laws.proofs.Lives.{chosen, length-mid}
-use Rattle.state_laws.proofs.Rising.{none_removed, rising_remove, each_remove, few_withdrawn, absent}
-use Rattle.state_laws.proofs.Lists.{each_put, two_put}
-use Rattle.live_domain.specs.Keyed.{has_notice, without_notice, without_notice_of}
-use Rattle.domains.specs.ById.{end_key, ring_ended, forget_key, notice_ended, rings_in, rings_of, ring_in, ring_at, stands, is_noted}
+use Rattle.state_laws.specs.Each.{EachTwo}
+use Rattle.state_laws.specs.Valid.{IsLive, IsRing, IsValid}
+use Rattle.state_laws.proofs.Domains.{fit_found, get_map, get_set_same}
+use Rattle.state_laws.proofs.Lives.{chosen}
+use Rattle.state_laws.proofs.Rising.{none_removed, absent}
+use Rattle.live_domain.specs.Keyed.{without_notice_of}
+use Rattle.domains.specs.ById.{end_key, ring_ended, forget_key, notice_ended}
 
 abbrev Rises : Notices → Type 0
 Rises ns = EachTwo (λ (a b : ℕ × ℕ). a.0 < b.0) ns

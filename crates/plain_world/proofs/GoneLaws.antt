@@ -1,5 +1,5 @@
 -- Laws of a domain without rings that ends, or is reset: nothing changes for the lists.
-use Rattle.std.proofs.Common.{◌≡◌, ℕ, Bool, true, false, cond, not, ◌==◌, List, [], is_some, unwrap_or, Option, Some, None, option_map, refl, sym, ap, ◌∙◌, subst, arith}
+use Rattle.std.proofs.Common.{◌≡◌, ℕ, Bool, true, false, cond, not, ◌==◌, [], is_some, Option, Some, None, option_map, refl, sym, ap, ◌∙◌, subst, arith}
 use Rattle.std.specs.Map.{lookup}
 use Rattle.std.specs.BTreeMap.{is_at}
 use Rattle.std.proofs.lemmas.Bool.Decides.{nat_tests}
@@ -8,7 +8,7 @@ use Rattle.argo_base.specs.declared.errno.Errno.TheVariants.{Srch}
 use Rattle.argo_base.specs.declared.ring_key.RingId.{RingId}
 use Rattle.argo_base.specs.declared.ring_key.RingKey.{RingKey}
 use Rattle.argo_model.specs.declared.action.Outcome.TheVariants.{Done}
-use Rattle.argo_model.specs.Rules.Destroy.{forget, gone_domain, reset_live, change_all, destroy, reset}
+use Rattle.argo_model.specs.Rules.Destroy.{forget, gone_domain, reset_live, change_all}
 use Rattle.argo_model.specs.Rules.Effects.{refuse_if, leaving}
 use Rattle.argo_model.specs.Rules.State.{State, Domain, Live, domain_of, live_of, is_alive, change_found, change_domain, change_life}
 use Rattle.plain_world.specs.Levels.{Levels, AreLevel}

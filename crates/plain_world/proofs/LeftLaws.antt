@@ -1,19 +1,18 @@
 -- Laws of what is left after a ring or a notice ended: valid states, as the lists see them, and nothing to forget in the end.
-use Rattle.std.proofs.Common.{◌≡◌, ◌≢◌, ℕ, ◌+◌, ◌-◌, ◌<◌, ◌≤◌, Bool, true, false, ◌==◌, ◌&&◌, ◌||◌, not, IsTrue, IfSome, List, [], ◌∷◌, ◌++◌, length, filter, map, is_some, Option, Some, None, option_map, option_and_then, ⊎_elim, cond, inl, inr, ◌⊎◌, refl, sym, ap, ◌∙◌, subst, arith}
+use Rattle.std.proofs.Common.{◌≡◌, ◌≢◌, ℕ, ◌-◌, ◌<◌, Bool, true, false, ◌==◌, ◌&&◌, ◌||◌, IfSome, List, [], ◌∷◌, ◌++◌, length, is_some, Option, Some, None, option_map, option_and_then, cond, refl, sym, ap, ◌∙◌, subst, arith}
 use Rattle.std.specs.Ordering.{nat_cmp}
 use Rattle.std.specs.Map.{lookup, set_value, remove_entry}
 use Rattle.std.specs.BTreeMap.{is_at}
 use Rattle.std.proofs.lemmas.Bool.{false≢true}
 use Rattle.std.proofs.lemmas.Bool.Decides.{nat_tests}
 use Rattle.std.proofs.lemmas.Map.Steps.{set_value_same}
-use Rattle.argo_base.specs.Limits.{most_notices}
-use Rattle.argo_base.specs.Match.{key_cmp, id_cmp, key_in, is_wildcard}
-use Rattle.argo_base.specs.Notices.{Notices, size_of, withdrawn}
+use Rattle.argo_base.specs.Match.{key_cmp, id_cmp, key_in}
+use Rattle.argo_base.specs.Notices.{withdrawn}
 use Rattle.argo_base.specs.declared.ring_key.RingId.{RingId}
 use Rattle.argo_base.specs.declared.ring_key.RingKey.{RingKey}
 use Rattle.argo_model.specs.declared.action.Outcome.TheVariants.{Done}
-use Rattle.argo_model.specs.Rules.Destroy.{ring_without, rings_without, live_without, forget}
-use Rattle.argo_model.specs.Rules.Effects.{Change, change_in, leaving, with_life}
+use Rattle.argo_model.specs.Rules.Destroy.{ring_without}
+use Rattle.argo_model.specs.Rules.Effects.{change_in, leaving, with_life}
 use Rattle.argo_model.specs.Rules.Register.{own_ring, without_ring, has_number}
 use Rattle.argo_model.specs.Rules.RingBytes.{ring_bytes}
 use Rattle.argo_model.specs.Rules.State.{State, Domain, Live, Ring, domain_of, set_domain, live_of, is_alive, change_found, change_domain, change_life}
@@ -22,14 +21,13 @@ use Rattle.plain_world.proofs.ActLaws.{seen}
 use Rattle.plain_world.proofs.EndLaws.{removed_none}
 use Rattle.plain_world.proofs.NoticeLaws.{withdrawn_other, key_set_other, key_set_same, key_removed_other, none_apart}
 use Rattle.plain_world.proofs.RingLaws.{live_found, live_here, live_other, ring_in_change, id_here}
-use Rattle.state_laws.specs.Each.{Each, EachTwo}
 use Rattle.state_laws.specs.Valid.{IsLive, IsRing, IsNotice, AreApart, KeepsUntaken, IsValid}
 use Rattle.state_laws.proofs.Domains.{kept_in, valid_kept, fit_found}
-use Rattle.state_laws.proofs.Lists.{each_put, two_put, each_found, each_weak}
-use Rattle.state_laws.proofs.Lives.{In, each_in, lookup_in, chosen, length-mid, key_same, key_self, apart_turned}
-use Rattle.state_laws.proofs.Rising.{none_removed, rising_remove, each_remove, few_withdrawn, absent, is_at_same, is_at_not, is_at_self}
+use Rattle.state_laws.proofs.Lists.{each_put, two_put, each_weak}
+use Rattle.state_laws.proofs.Lives.{chosen, length-mid, key_same, apart_turned}
+use Rattle.state_laws.proofs.Rising.{none_removed, rising_remove, each_remove, few_withdrawn, absent}
 use Rattle.live_domain.specs.Keyed.{has_notice, without_notice, without_notice_of}
-use Rattle.domains.specs.ById.{end_key, ring_ended, forget_key, notice_ended, id_in, rings_in, rings_of, ring_in, ring_at, stands, is_noted}
+use Rattle.domains.specs.ById.{end_key, ring_ended, forget_key, notice_ended, rings_in, rings_of, ring_in, ring_at, stands, is_noted}
 
 -- a change of what a domain has, where it is alive
 pub as_change : (s : State) (o : ℕ) (f : Live → Live) (x : Domain) (live : Live) → domain_of s o ≡ Some x → x.life ≡ Some live

@@ -1,28 +1,26 @@
 -- Laws of the levels after an act: valid, and with exact lists.
-use Rattle.std.proofs.Common.{◌≡◌, ℕ, ◌≤◌, Bool, true, false, ◌==◌, ◌&&◌, ◌||◌, not, IsTrue, IfSome, List, [], ◌∷◌, length, is_some, Option, Some, None, option_and_then, Result, Ok, Err, IfOk, OnErr, refl, sym, ap, ◌∙◌, subst, arith}
+use Rattle.std.proofs.Common.{◌≡◌, ℕ, Bool, true, false, ◌==◌, ◌&&◌, ◌||◌, not, List, [], ◌∷◌, is_some, Option, Some, None, Result, Ok, Err, IfOk, OnErr, refl, sym, ap, ◌∙◌, subst, arith}
 use Rattle.std.specs.BTreeMap.{is_at}
 use Rattle.std.proofs.lemmas.Bool.Decides.{nat_tests}
-use Rattle.argo_base.specs.Match.{id_cmp, key_in, is_wildcard}
+use Rattle.argo_base.specs.Match.{id_cmp, is_wildcard}
 use Rattle.argo_base.specs.Notices.{Notices, doms_of}
 use Rattle.argo_base.specs.declared.no_memory.NoMemory.{NoMemory}
 use Rattle.argo_base.specs.declared.ring_key.RingId.{RingId}
 use Rattle.argo_model.specs.declared.action.Outcome.{Outcome}
 use Rattle.argo_model.specs.Rules.Effects.{Effect}
-use Rattle.argo_model.specs.Rules.Register.{own_ring, has_number}
-use Rattle.argo_model.specs.Rules.State.{State, Domain, Live, Ring, domain_of, is_alive}
+use Rattle.argo_model.specs.Rules.Register.{has_number}
+use Rattle.argo_model.specs.Rules.State.{State, Ring}
 use Rattle.domain_lists.specs.Lists.{RingLists, names, is_pair}
-use Rattle.plain_world.specs.Levels.{Levels, AreLevel, AreSends, AreWaits, is_for, waits_on}
+use Rattle.plain_world.specs.Levels.{Levels, AreLevel, AreSends, AreWaits}
 use Rattle.plain_world.specs.Touches.{is_touched, Touches}
 use Rattle.plain_world.proofs.ActLaws.{Same, Notes}
-use Rattle.plain_world.proofs.LeftLaws.{fit_of, ended_other, ended_here, valid_end, noted_stands, noted_apart, noted_here, valid_notice}
+use Rattle.plain_world.proofs.LeftLaws.{ended_other, ended_here, noted_stands, noted_apart, noted_here, valid_notice}
 use Rattle.plain_world.proofs.LevelLaws.{sends_kept, waits_kept, sends_mended, waits_mended, waits_apart, kept_apart, kept_here, off_apart, off_here, off_single}
 use Rattle.plain_world.proofs.NoticeLaws.{not_waiting}
-use Rattle.plain_world.proofs.RingLaws.{live_found}
-use Rattle.state_laws.specs.Valid.{IsValid, IsLive}
-use Rattle.state_laws.proofs.Lives.{chosen}
+use Rattle.state_laws.specs.Valid.{IsValid}
 use Rattle.domain_lists.proofs.IdLaws.{id_same, id_self}
 use Rattle.live_domain.specs.Keyed.{has_notice, noted_on}
-use Rattle.domains.specs.ById.{ring_ended, notice_ended, ring_in, ring_at, stands, is_noted}
+use Rattle.domains.specs.ById.{ring_ended, notice_ended, ring_at, stands, is_noted}
 
 -- what holds before and after an act holds whether memory runs out or not
 pub either : (P : State → Type 0) (r : Result Outcome NoMemory) (e : Effect) (s t : State) → IfOk r (λ o. e ≡ record { outcome = o; state = t }) → OnErr r (t ≡ s) → P s → P e.state → P t

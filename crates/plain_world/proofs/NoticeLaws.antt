@@ -1,5 +1,5 @@
 -- Laws of who waits on a ring, and of rings by their keys.
-use Rattle.std.proofs.Common.{◌≡◌, ◌≢◌, ℕ, ◌<◌, Bool, true, false, cond, ◌==◌, ◌&&◌, ◌||◌, not, List, [], ◌∷◌, ◌++◌, filter, map, is_some, Option, Some, None, option_map, refl, sym, ap, ◌∙◌, subst, arith}
+use Rattle.std.proofs.Common.{◌≡◌, ◌≢◌, ℕ, ◌<◌, Bool, true, false, cond, ◌==◌, ◌||◌, not, List, [], ◌∷◌, filter, map, is_some, Some, None, option_map, refl, sym, ap, ◌∙◌, subst, arith}
 use Rattle.std.specs.declared.cmp.Ordering.{Ordering}
 use Rattle.std.specs.declared.cmp.Ordering.TheVariants.{Less, Equal, Greater}
 use Rattle.std.specs.Ordering.{nat_cmp, match_ordering, is_eq}
@@ -13,9 +13,9 @@ use Rattle.argo_model.specs.Rules.Register.{has_number}
 use Rattle.argo_model.specs.Rules.State.{Ring}
 use Rattle.state_laws.specs.Each.{Each, EachTwo}
 use Rattle.state_laws.specs.Valid.{AreApart}
-use Rattle.state_laws.proofs.Lives.{key_same, key_self, key_other}
+use Rattle.state_laws.proofs.Lives.{key_self, key_other}
 use Rattle.state_laws.proofs.Lists.{each_weak, each_filter}
-use Rattle.state_laws.proofs.Rising.{cmp_equal, is_at_same, is_at_self, absent}
+use Rattle.state_laws.proofs.Rising.{cmp_equal, is_at_same, absent}
 
 at_not : (d k : ℕ) → (d == k) ≡ false → is_at (nat_cmp k) d ≡ false
 at_not d k h = grind (arith, nat_tests)

@@ -1,5 +1,5 @@
 -- Laws of the rings of a state by their ids, as domains change.
-use Rattle.std.proofs.Common.{◌≡◌, ◌≢◌, ℕ, Bool, true, false, cond, ◌==◌, ◌&&◌, List, [], ◌∷◌, is_some, unwrap_or, Option, Some, None, option_map, option_and_then, refl, sym, ap, ◌∙◌, subst, arith}
+use Rattle.std.proofs.Common.{◌≡◌, ◌≢◌, ℕ, Bool, true, false, cond, ◌==◌, ◌&&◌, List, [], ◌∷◌, is_some, unwrap_or, Option, Some, None, option_map, option_and_then, refl, sym, ap, ◌∙◌, arith}
 use Rattle.std.specs.declared.cmp.Ordering.{Ordering}
 use Rattle.std.specs.declared.cmp.Ordering.TheVariants.{Less, Equal, Greater}
 use Rattle.std.specs.Ordering.{nat_cmp, ordering_then, is_eq}
@@ -11,7 +11,7 @@ use Rattle.argo_base.specs.declared.ring_key.RingId.{RingId}
 use Rattle.argo_base.specs.declared.ring_key.RingKey.{RingKey}
 use Rattle.argo_model.specs.Rules.Effects.{Change, change_in, set_left, with_life, after}
 use Rattle.argo_model.specs.Rules.Register.{own_ring, has_number}
-use Rattle.argo_model.specs.Rules.State.{State, Domain, Live, Ring, domain_of, set_domain, live_of, change_found, change_domain, change_life, flagged, signalled, signal, signal_all}
+use Rattle.argo_model.specs.Rules.State.{State, Domain, Live, domain_of, set_domain, live_of, change_found, change_domain, flagged, signalled, signal, signal_all}
 use Rattle.domain_lists.proofs.IdLaws.{id_same}
 use Rattle.plain_world.specs.Touches.{is_touched, Touches}
 use Rattle.state_laws.proofs.Domains.{get_set_other, get_set_same}

@@ -1,5 +1,5 @@
 -- Laws of acts that touch one ring of a domain: a sweep, and a registration.
-use Rattle.std.proofs.Common.{◌≡◌, ℕ, ◌<◌, Bool, true, false, ◌==◌, ◌&&◌, ◌||◌, not, cond, IsTrue, IfSome, List, [], ◌∷◌, length, filter, nat_le, is_some, unwrap_or, if◌then◌else◌, Option, Some, None, option_map, refl, sym, ap, ◌∙◌, subst, arith}
+use Rattle.std.proofs.Common.{◌≡◌, ℕ, ◌<◌, Bool, true, false, ◌==◌, ◌&&◌, not, cond, IfSome, List, [], ◌∷◌, length, filter, nat_le, is_some, unwrap_or, if◌then◌else◌, Option, Some, None, option_map, refl, sym, ap, ◌∙◌, subst}
 use Rattle.std.specs.Map.{lookup, set_value}
 use Rattle.std.specs.BTreeMap.{is_at}
 use Rattle.std.proofs.lemmas.Bool.{false≢true}
@@ -12,13 +12,13 @@ use Rattle.argo_base.specs.declared.ring_key.RingKey.{RingKey}
 use Rattle.argo_model.specs.declared.action.Action.TheVariants.{Sweep}
 use Rattle.argo_model.specs.declared.scripts.Actor.TheVariants.{Vcpu}
 use Rattle.argo_model.specs.Rules.Act.{act, act_if_there, act_if_live}
-use Rattle.argo_model.specs.Rules.Effects.{Change, change_in, refuse_if, answered, leaving, lifted, after}
+use Rattle.argo_model.specs.Rules.Effects.{Change, change_in, refuse_if, answered, after}
 use Rattle.argo_model.specs.Rules.Limits.{most_rings}
-use Rattle.argo_model.specs.Rules.Register.{is_single, own_ring, has_ring, has_number, are_free_for, register_own, register_allowed, register_new, register_anew, stands_so, resized, restart}
+use Rattle.argo_model.specs.Rules.Register.{is_single, own_ring, has_ring, has_number, are_free_for, register_own, register_allowed, register_new, register_anew, stands_so, resized}
 use Rattle.argo_model.specs.Rules.RingBytes.{PagedRing, paged, set_paged, free}
 use Rattle.argo_model.specs.Rules.Starts.{started}
 use Rattle.argo_model.specs.Rules.State.{State, Domain, Live, Ring, domain_of, life_in, is_alive, is_on}
-use Rattle.argo_model.specs.Rules.Sweep.{next_ring, sweep_found, sweep_ring, sweep_own, sweep}
+use Rattle.argo_model.specs.Rules.Sweep.{next_ring, sweep_found, sweep_ring}
 use Rattle.argo_model.specs.declared.action.Outcome.TheVariants.{Done}
 use Rattle.plain_world.specs.Touches.{Touches}
 use Rattle.live_domain.specs.declared.registration.Registration.{Registration}
@@ -27,13 +27,13 @@ use Rattle.plain_world.proofs.LeftLaws.{fit_of}
 use Rattle.plain_world.proofs.ActLaws.{acts_by, seen}
 use Rattle.plain_world.proofs.NoticeLaws.{kept_others, none_left, key_set_other, key_set_same, key_put_other, key_put_same}
 use Rattle.plain_world.proofs.RingLaws.{TouchesLive, touches_self, touches_same, touches, live_found}
-use Rattle.state_laws.specs.Each.{Each, EachTwo}
+use Rattle.state_laws.specs.Each.{EachTwo}
 use Rattle.state_laws.specs.Valid.{IsLive, IsRing, IsValid}
 use Rattle.state_laws.proofs.Domains.{fit_found}
-use Rattle.state_laws.proofs.Lives.{key_same, key_self, In, each_in, lookup_in, next_in, chosen}
+use Rattle.state_laws.proofs.Lives.{key_same, each_in, lookup_in, next_in, chosen}
 use Rattle.live_domain.specs.Keyed.{has_notice}
 use Rattle.domains.specs.Domain.{sweep_if_live}
-use Rattle.domains.specs.ById.{id_in, rings_in, rings_of, stands, next_key}
+use Rattle.domains.specs.ById.{id_in, rings_in, stands, next_key}
 use Rattle.domains.specs.World.{swept, swept_of, register_change, registered, registered_if_live, registered_if_there}
 
 unset : {K X : Type 0} (test : K → Bool) (es : List (K × X)) (w : X) → lookup test es ≡ None → set_value test es w ≡ es

@@ -1,4 +1,4 @@
-use Rattle.std.proofs.Common.{◌≡◌, ◌≤◌, List, length, not, ◌&&◌, ap, ◌∙◌, sym, subst}
+use Rattle.std.proofs.Common.{◌≤◌, List, length, ap, ◌∙◌, sym, subst}
 use Rattle.std.specs.BTreeMap.{is_at}
 use Rattle.argo_base.specs.Match.{id_cmp}
 use Rattle.argo_base.specs.RingIds.{has_id}

@@ -1,4 +1,4 @@
-use Rattle.std.proofs.Common.{◌≡◌, ℕ, ◌+◌, ◌≤◌, List, arith}
+use Rattle.std.proofs.Common.{◌+◌, arith}
 use Rattle.plain_world.proofs.OffLaws.{off_noted}
 use Rattle.plain_world.proofs.mends.take_off_noted.Goals as goal
 

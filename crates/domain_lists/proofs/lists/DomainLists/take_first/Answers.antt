@@ -1,4 +1,4 @@
-use Rattle.std.proofs.Common.{◌≡◌, ℕ, ◌+◌, ◌&&◌, ◌≤◌, not, true, Some, None, IfSome, IfNone, Option, List, [], ◌∷◌, length, refl, ap, ◌∙◌, sym, subst, unwrap_or, arith}
+use Rattle.std.proofs.Common.{◌≡◌, ℕ, ◌+◌, ◌&&◌, ◌≤◌, not, true, Some, None, IfSome, IfNone, Option, List, [], ◌∷◌, length, ap, ◌∙◌, sym, subst, unwrap_or, arith}
 use Rattle.std.specs.Option.{option_copied_mut}
 use Rattle.std.specs.Ordering.{nat_cmp}
 use Rattle.std.specs.List.{All}

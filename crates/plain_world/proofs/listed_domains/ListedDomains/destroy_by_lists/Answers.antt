@@ -1,4 +1,4 @@
-use Rattle.std.proofs.Common.{◌≡◌, List, [], sym, ap, ◌∙◌, subst}
+use Rattle.std.proofs.Common.{sym, ap, ◌∙◌, subst}
 use Rattle.argo_model.specs.Rules.Destroy.{forget, gone_domain}
 use Rattle.argo_model.specs.Rules.State.{State, change_domain}
 use Rattle.plain_world.specs.Levels.{Levels, AreLevel}

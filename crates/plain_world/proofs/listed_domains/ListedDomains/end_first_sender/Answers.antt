@@ -1,4 +1,4 @@
-use Rattle.std.proofs.Common.{◌≡◌, List, [], refl, sym, ap, ◌∙◌, subst}
+use Rattle.std.proofs.Common.{sym, ap, ◌∙◌, subst}
 use Rattle.argo_base.specs.Match.{key_in}
 use Rattle.argo_model.specs.Rules.Destroy.{forget}
 use Rattle.argo_model.specs.Rules.State.{State}

@@ -1,4 +1,4 @@
-use Rattle.std.proofs.Common.{◌≡◌, refl, sym, ap, ◌∙◌, subst}
+use Rattle.std.proofs.Common.{refl, sym, subst}
 use Rattle.argo_model.specs.Rules.State.{State}
 use Rattle.plain_world.specs.Levels.{Levels, AreLevel}
 use Rattle.plain_world.proofs.LeftLaws.{valid_end}

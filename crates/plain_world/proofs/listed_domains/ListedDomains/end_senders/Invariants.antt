@@ -1,4 +1,4 @@
-use Rattle.std.proofs.Common.{◌≡◌, ◌+◌, List, [], length}
+use Rattle.std.proofs.Common.{◌≡◌, ◌+◌, [], length}
 use Rattle.argo_model.specs.Rules.Destroy.{forget}
 use Rattle.domain_lists.specs.Lists.{ids_of, AreNoLonger}
 use Rattle.plain_world.proofs.listed_domains.ListedDomains.end_senders.Given as goal

@@ -1,4 +1,4 @@
-use Rattle.std.proofs.Common.{◌≡◌, List, [], sym, ap, ◌∙◌, subst}
+use Rattle.std.proofs.Common.{◌≡◌, ap, ◌∙◌, subst}
 use Rattle.argo_model.specs.Rules.Destroy.{forget}
 use Rattle.domain_lists.specs.Lists.{ids_of}
 use Rattle.plain_world.specs.Levels.{Levels}

@@ -1,6 +1,4 @@
 use Rattle.std.proofs.Common.{◌≡◌, sym, ap, ◌∙◌, subst}
-use Rattle.argo_base.specs.Match.{is_wildcard}
-use Rattle.argo_base.specs.declared.ring_key.RingId.{RingId}
 use Rattle.argo_model.specs.declared.action.Action.TheVariants.{Deliver}
 use Rattle.argo_model.specs.declared.scripts.Actor.TheVariants.{Vcpu}
 use Rattle.argo_model.specs.Rules.Act.{act}

@@ -1,6 +1,4 @@
 use Rattle.std.proofs.Common.{◌≡◌, sym, ap, ◌∙◌, subst}
-use Rattle.argo_base.specs.Match.{is_wildcard}
-use Rattle.argo_base.specs.declared.ring_key.RingId.{RingId}
 use Rattle.argo_model.specs.declared.action.Action.TheVariants.{Query}
 use Rattle.argo_model.specs.declared.scripts.Actor.TheVariants.{Vcpu}
 use Rattle.argo_model.specs.Rules.Act.{act}
@@ -10,7 +8,7 @@ use Rattle.plain_world.proofs.ActLaws.{Notes, notes_self, query_notes}
 use Rattle.plain_world.proofs.LevelActs.{either, level_noted, level_noted_apart}
 use Rattle.state_laws.proofs.Courses.{valid_fit}
 use Rattle.plain_world.proofs.listed_domains.ListedDomainsDomainActs.query.Goals as goal
-use Rattle.domains.specs.ById.{is_noted, met_id}
+use Rattle.domains.specs.ById.{is_noted}
 
 pub invariant_of-self-then-not-is_any : goal.invariant_of-self-then-not-is_any
 invariant_of-self-then-not-is_any g c =

@@ -1,5 +1,4 @@
 use Rattle.std.proofs.Common.{◌≡◌, ℕ, List, [], sym, ap, ◌∙◌, subst}
-use Rattle.argo_model.specs.declared.action.Action.TheVariants.{Register}
 use Rattle.argo_model.specs.declared.scripts.Actor.TheVariants.{Vcpu}
 use Rattle.argo_model.specs.Rules.Act.{act}
 use Rattle.argo_model.specs.Rules.State.{State}

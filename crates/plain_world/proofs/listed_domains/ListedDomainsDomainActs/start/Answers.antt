@@ -1,7 +1,7 @@
-use Rattle.std.proofs.Common.{◌≡◌, List, [], sym, subst}
+use Rattle.std.proofs.Common.{[], sym, subst}
 use Rattle.argo_model.specs.Rules.State.{State, start_state}
 use Rattle.domain_lists.specs.Lists.{RingLists}
-use Rattle.plain_world.specs.Levels.{Levels, AreLevel}
+use Rattle.plain_world.specs.Levels.{AreLevel}
 use Rattle.plain_world.proofs.DoneLaws.{level_start}
 use Rattle.plain_world.proofs.listed_domains.ListedDomainsDomainActs.start.Goals as goal
 
