@@ -7,7 +7,7 @@ use crate::picks::Picks;
 use argo_base::NoMemory;
 use argo_machine::Machine;
 use argo_model::{Final, Scripts};
-use flat_world::FlatWorld;
+use plain_world::PlainWorld;
 use std::alloc::Global;
 
 /// Runs a script by the picks of a seed: for 0 each section to its end in its turn, else one step of a section picked by a
@@ -16,7 +16,7 @@ pub fn run_scripts(alloc: Global, seed: u64, scripts: &Scripts) -> Result<Final,
     ensures { IfOk result (λ shown. IsRunByPicks scripts.now seed shown) }
 {
     let count = scripts.parts.len();
-    let mut machine = Machine::<FlatWorld>::new(alloc, scripts)?;
+    let mut machine = Machine::<PlainWorld>::new(alloc, scripts)?;
     let mut picks = Picks::new(seed);
     let mut vcpus = Vec::with_capacity(alloc, count)?;
     list_open(&machine, count as u32, &mut vcpus);
@@ -29,7 +29,7 @@ pub fn run_scripts(alloc: Global, seed: u64, scripts: &Scripts) -> Result<Final,
 }
 
 // Lists the sections, of the first so many, that have a line left.
-fn list_open(machine: &Machine<FlatWorld>, count: u32, vcpus: &mut Vec<u32>)
+fn list_open(machine: &Machine<PlainWorld>, count: u32, vcpus: &mut Vec<u32>)
     requires { count ≤ vec_capacity vcpus.old }
     ensures open { vcpus.new.items
         ≡ filter (is_open (run machine.now.script machine.now.schedule)) (range_with_len 0 count) }

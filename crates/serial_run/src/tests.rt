@@ -6,7 +6,7 @@ use super::*;
 use argo_base::{DomId, NoMemory};
 use argo_machine::Machine;
 use argo_model::{Actor, DomainLine, DomainLines, Line, Lines, Part, Parts, Run, Scripts};
-use flat_world::FlatWorld;
+use plain_world::PlainWorld;
 use std::alloc::Global;
 use std::test::Fail;
 
@@ -54,7 +54,7 @@ fn a_seed_picks_the_schedule(rt: HostRuntime) -> Result<(), Fail> {
 #[test]
 fn a_machine_is_closed_after_a_step(rt: HostRuntime) -> Result<(), Fail> {
     let scripts = two_sections(rt.alloc())?;
-    let mut machine = Machine::<FlatWorld>::new(rt.alloc(), &scripts)?;
+    let mut machine = Machine::<PlainWorld>::new(rt.alloc(), &scripts)?;
     if !machine.finished(1) {
         machine.step(1)?;
     }
