@@ -1,2 +1,3 @@
 pub mod PickLaws
 pub mod UniqueLaws
+pub mod OpenLaws

@@ -23,7 +23,9 @@ pub fn run_scripts(alloc: Global, seed: u64, scripts: &Scripts) -> Result<Final,
     'steps: while !vcpus.is_empty() {
         let v = vcpus[picks.next_place(vcpus.len())];
         machine.step(v)?;
-        list_open(&machine, count as u32, &mut vcpus);
+        if machine.finished(v) {
+            list_open(&machine, count as u32, &mut vcpus);
+        }
     }
     machine.finish()
 }
