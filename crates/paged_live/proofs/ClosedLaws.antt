@@ -24,8 +24,8 @@ closed_seen (e ∷ es) = ap (λ cs. closed_of e ∷ cs) (closed_seen es)
 pub closed_by_keys : (rows : Rows) → IsStrictlySortedBy key_cmp (keys_of rows) → closed_all rows (serials_of rows) ≡ map closed_of rows
 closed_by_keys rows rising =
     by rows (λ i e at. lookup_from_place (eq_by_cmp_equiv key_total) rows i e.0 e.1 (IsDistinct-from_sorted key_cmp (keys_of rows) rising) at) where
-  by : (es : Rows) → ((i : ℕ) (e : RingKey × Row Held) → slice_get es i ≡ Some e → held_at rows e.0 ≡ Some e.1) → closed_all rows (serials_of es) ≡ map closed_of es
-  by [] all = refl
-  by (e ∷ es) all =
-      ap (λ o. cons_option (option_map (λ (h : Row Held). closed_of (e.0, h)) o) (closed_all rows (serials_of es))) (all zero e refl)
-      ∙ ap (λ cs. closed_of e ∷ cs) (by es (λ i d at. all (suc i) d at))
+      by : (es : Rows) → ((i : ℕ) (e : RingKey × Row Held) → slice_get es i ≡ Some e → held_at rows e.0 ≡ Some e.1) → closed_all rows (serials_of es) ≡ map closed_of es
+      by [] all = refl
+      by (e ∷ es) all =
+          ap (λ o. cons_option (option_map (λ (h : Row Held). closed_of (e.0, h)) o) (closed_all rows (serials_of es))) (all zero e refl)
+          ∙ ap (λ cs. closed_of e ∷ cs) (by es (λ i d at. all (suc i) d at))

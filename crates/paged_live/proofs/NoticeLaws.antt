@@ -1,10 +1,11 @@
 -- Laws of a notice that ends on one ring of a domain.
-use Rattle.std.proofs.Common.{◌≡◌, ℕ, Option, Some, None, option_map, refl, sym, ap, ◌∙◌}
+use Rattle.std.proofs.Common.{◌≡◌, ℕ, ◌≤◌, Bool, true, false, cond, List, [], ◌∷◌, length, filter, arith, Option, Some, None, option_map, refl, sym, ap, ◌∙◌}
 use Rattle.std.specs.Map.{set_value}
 use Rattle.std.specs.BTreeMap.{is_at}
 use Rattle.std.proofs.lemmas.Map.Made.{lookup-map_values}
 use Rattle.argo_base.specs.declared.ring_key.RingKey.{RingKey}
 use Rattle.argo_base.specs.Match.{key_cmp}
+use Rattle.argo_base.specs.Notices.{Notices, doms_of}
 use Rattle.argo_model.specs.Rules.Destroy.{ring_without}
 use Rattle.argo_model.specs.Rules.RingBytes.{set_paged, laid}
 use Rattle.ring_core.specs.Held.{Held, paged, Becomes}
@@ -51,3 +52,11 @@ no_value rows key none = by (held_at rows key) none where
   by : (o : Option (Row Held)) → option_map (λ (r : Row Held). r.value) o ≡ None → o ≡ None
   by None h = refl
   by (Some r) h = cc
+
+-- no more notices end than there are
+pub no_more : (p : ℕ × ℕ → Bool) (ns : Notices) → length (doms_of (filter p ns)) ≤ length ns
+no_more p [] = omega arith
+no_more p (n ∷ ns) = by (p n) (no_more p ns) where
+  by : (b : Bool) → length (doms_of (filter p ns)) ≤ length ns → length (doms_of (cond b (n ∷ filter p ns) (filter p ns))) ≤ length (n ∷ ns)
+  by true rest = omega (arith, rest)
+  by false rest = omega (arith, rest)

@@ -1,13 +1,12 @@
 //! The acts of a domain that is alive.
 ghost use Rattle.std.specs.Prelude.{◌≡◌};
 
-use crate::closed;
-use crate::finals;
 use crate::home::no_homes;
 use crate::live::Live;
 use crate::offers::{match_key, offer_to};
 use crate::queries::ask;
 use crate::sweeps::sweep_ring;
+use crate::{closed, finals};
 use argo_base::{Bytes, DomId, Errno, NoMemory, RingKey};
 use argo_model::{Action, ClosedRings, FinalRings, Outcome};
 use guest_pages::Private;
@@ -60,9 +59,7 @@ impl LiveDomain for Live {
     }
 
     fn offer(&mut self, _to: DomId, to_port: u32, sent: Offer) -> Result<Outcome, NoMemory> {
-        let Some(key) = match_key(&self.rings, to_port, sent.sender) else {
-            return Ok(Outcome::Refused(Errno::ConnRefused));
-        };
+        let key = match_key(&self.rings, to_port, sent.sender);
         let Some(ring) = self.rings.find_exact_mut(key) else {
             return Ok(Outcome::Refused(Errno::ConnRefused));
         };
@@ -71,9 +68,7 @@ impl LiveDomain for Live {
     }
 
     fn answer(&mut self, port: u32, sender: DomId, need: u32) -> Result<Outcome, NoMemory> {
-        let Some(key) = match_key(&self.rings, port, sender) else {
-            return Ok(Outcome::Answer(NO_ANSWER));
-        };
+        let key = match_key(&self.rings, port, sender);
         let Some(ring) = self.rings.find_exact_mut(key) else {
             return Ok(Outcome::Answer(NO_ANSWER));
         };

@@ -54,7 +54,13 @@ impl Model for Live {
 
 impl Live {
     /// Fetches `n` bytes at an offset of a page.
-    pub(crate) fn fetch(&self, alloc: Global, page: u64, off: u32, n: u32) -> Result<Outcome, NoMemory>
+    pub(crate) fn fetch(
+        &self,
+        alloc: Global,
+        page: u64,
+        off: u32,
+        n: u32,
+    ) -> Result<Outcome, NoMemory>
         requires { off + n ≤ 4096 }
         ensures { IfOk result (λ o. o ≡ acts.fetch self.now page off n) }
     {

@@ -1,6 +1,6 @@
 //! A message that is offered to a domain.
-ghost use Rattle.std.specs.Prelude.{◌≡◌, ℕ, IsTrue, IfOk, OnOk, OnErr, option_map};
-ghost use Rattle.argo_base.specs.Match.{match_of};
+ghost use Rattle.std.specs.Prelude.{◌≡◌, ℕ, IsTrue, IfOk, OnOk, OnErr};
+ghost use Rattle.argo_base.specs.Match.{at_key, match_of};
 ghost use Rattle.argo_model.specs.Rules.Deliver as deliver;
 ghost use Rattle.argo_model.specs.Rules.Effects.{after};
 ghost use Rattle.argo_model.specs.Rules.Fit.{is_fit_load};
@@ -14,12 +14,18 @@ use live_domain::Offer;
 use ring_core::{Accept, Offer as RingOffer, Ring};
 use ring_table::Table;
 
-/// The key of the ring that a sender meets at a port, where it meets one.
-pub(crate) fn match_key(rings: &Table<Ring>, port: u32, sender: DomId) -> Option<RingKey>
-    ensures { result ≡ option_map (λ e. e.0) (match_of rings.now port sender) }
+/// The key of the ring that a sender meets at a port; of none, where it meets none.
+pub(crate) fn match_key(rings: &Table<Ring>, port: u32, sender: DomId) -> RingKey
+    ensures { at_key rings.now result ≡ match_of rings.now port sender }
 {
-    let row = rings.find(port, sender)?;
-    Some(row.key)
+    let stands = rings
+        .find_exact(RingKey {
+            port,
+            partner: sender,
+        })
+        .is_some();
+    let partner = if stands { sender } else { DomId::ANY };
+    RingKey { port, partner }
 }
 
 /// Takes an offer to a ring.

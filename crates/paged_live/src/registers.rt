@@ -19,11 +19,11 @@ ghost use Rattle.ring_table.specs.Rows.{held_at};
 
 use crate::home::{clear, settle, settle_row};
 use crate::live::Live;
-use crate::sweeps::{list, room_for_all};
+use crate::sweeps::{list, room_for};
 use argo_base::{DomId, Ended, Errno, NoMemory, RingId, RingKey};
 use argo_model::Outcome;
-use live_domain::Change;
 use guest_pages::{LendFault, PageRow, Private};
+use live_domain::Change;
 use ring_core::Ring;
 use ring_table::{InsertFault, Table};
 use std::alloc::Global;
@@ -90,7 +90,7 @@ impl Live {
         if stands_so(ring, len, pages) {
             return Ok(Change::quiet(alloc, Outcome::Done));
         }
-        let mut signals = room_for_all(alloc)?;
+        let mut signals = room_for(alloc, ring)?;
         clear(self.homes.as_mut_slice(), ring.row());
         match restart(ring, len, &mut self.private, pages) {
             Ok(ended) => {
