@@ -27,7 +27,7 @@ use Rattle.argo_model.specs.Rules.Register.{is_single, has_ring, without_ring, r
 use Rattle.live_domain.specs.Own.{is_own, own_change, take_away}
 use Rattle.domains.specs.Domain.{own_if_live, sweep_if_live, with_left}
 use Rattle.section_world.specs.Acts.{caller_on, on_if_live, on_if_there}
-use Rattle.section_world.specs.Young.{is_young_life, is_young_domain, IsYoung}
+use Rattle.section_world.specs.Young.{is_young_life, is_young_domain}
 use Rattle.live_domain.specs.declared.registration.Registration.{Registration}
 use Rattle.domains.specs.World.{accepted_signals, register_change, registered, registered_if_live, registered_if_there}
 use Rattle.section_world.proofs.TestLaws.{both}
@@ -135,14 +135,10 @@ young_enough x h = by x.life (both (nat_le x.generation (2 ^ 62)) (is_young_life
   by None h = tt
   by (Some live) h = grind (arith, nat_tests)
 
--- whether there is something is not changed by what it is
+-- a change of what is there leaves it there
 pub still_some : {A B : Type 0} (f : A → B) (o : Option A) → is_some (option_map f o) ≡ is_some o
 still_some f None = refl
 still_some f (Some x) = refl
-
--- its own generation finds what is left of a domain
-pub life_in-own : (g : ℕ) (x : Domain) → x.generation ≡ g → life_in g x ≡ x.life
-life_in-own g x h = grind (arith, nat_tests)
 
 -- what a domain is found to have alive is its life
 life_in-some : (g : ℕ) (x : Domain) (live : Live) → life_in g x ≡ Some live → x.life ≡ Some live

@@ -1,5 +1,5 @@
 -- The rings of a state by their ids, and who waits on them.
-use Rattle.std.specs.Prelude.{ℕ, Bool, if◌then◌else◌, List, [], is_some, unwrap_or, Option, Some, None, option_map, option_and_then}
+use Rattle.std.specs.Prelude.{ℕ, Bool, if◌then◌else◌, List, [], is_some, unwrap_or, Option, Some, None, option_map}
 use Rattle.argo_base.specs.Match.{key_of, key_in, wildcard}
 use Rattle.argo_base.specs.declared.ring_key.RingId.{RingId}
 use Rattle.argo_base.specs.declared.ring_key.RingKey.{RingKey}

@@ -2,7 +2,6 @@
 use Rattle.std.specs.Prelude.{ℕ, Bool, Option, Some, None, List}
 use Rattle.argo_base.specs.declared.ring_key.RingKey.{RingKey}
 use Rattle.argo_model.specs.declared.action.Action.{Action}
-use Rattle.argo_model.specs.declared.action.Action.TheVariants.{Register}
 use Rattle.argo_model.specs.declared.action.Outcome.TheVariants.{Gone}
 use Rattle.argo_model.specs.Rules.Effects.{Change, answered, with_life}
 use Rattle.argo_model.specs.Rules.Register.{register_own}

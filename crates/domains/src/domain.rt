@@ -27,7 +27,6 @@ pub(crate) struct Domain<L: LiveDomain> {
 
 impl<L: LiveDomain> Model for Domain<L> {
     ghost use Rattle.argo_model.specs.Rules.State.{Domain as TheDomain};
-
     ghost use Rattle.std.specs.Prelude.{option_map};
 
     ghost Value = { TheDomain };

@@ -8,14 +8,13 @@ use Rattle.std.proofs.lemmas.List.{length-set, length-map}
 use Rattle.std.proofs.lemmas.List.Elements.{All-set, All-head, All-tail, All-cons}
 use Rattle.std.proofs.lemmas.List.Sums.{sum_by-cons, sum_by-set}
 use Rattle.argo_model.specs.declared.scripts.Actor.{Actor}
-use Rattle.argo_model.specs.declared.scripts.Actor.TheVariants.{Vcpu, Control}
 use Rattle.argo_model.specs.declared.scripts.DomainLine.{DomainLine}
 use Rattle.argo_model.specs.declared.action.Action.{Action}
 use Rattle.argo_model.specs.declared.action.Outcome.{Outcome}
 use Rattle.argo_model.specs.declared.closing.Totals.{Totals}
 use Rattle.argo_model.specs.Rules.Access.{is_fit_of, is_fit_at, is_within, has_steps_left, counted_of, counted_at}
 use Rattle.argo_model.specs.Rules.Act.{act}
-use Rattle.argo_model.specs.Rules.Fit.{is_fit, is_fit_for, needs_no_caller}
+use Rattle.argo_model.specs.Rules.Fit.{is_fit_for}
 use Rattle.argo_model.specs.Rules.State.{State, Domain, Live, fresh_domain, start_state}
 use Rattle.argo_model.specs.Runs.Final.{totals_after, no_steps}
 use Rattle.argo_model.specs.Runs.Script.{Script, Section, is_lawful}
@@ -69,10 +68,6 @@ acts_as actors v a fit = of (slice_get actors v) refl fit where
   of : (o : Option Actor) → slice_get actors v ≡ o → IsTrue (is_fit_of o a) → ActsAs actors v a
   of None here fit = absurd (false≢true fit)
   of (Some actor) here fit = record { actor = actor; here = here; fit = fit }
-
-pub fit_for_is_fit : (actor : Actor) (a : Action) → IsTrue (is_fit_for actor a) → IsTrue (is_fit a)
-fit_for_is_fit (Vcpu d g) a fit = fit
-fit_for_is_fit Control a fit = (both (is_fit a) (needs_no_caller a) fit).0
 
 -- what section v has done
 pub record HasDone (totals : List Totals) (v : ℕ) : Type 0 where
@@ -159,10 +154,6 @@ few_sections s lawful =
 no_steps_small : (xs : List Section) → All IsSmall (map (λ x. no_steps) xs)
 no_steps_small [] = λ k d below. absurd (omega arith)
 no_steps_small (x ∷ xs) = All-cons IsSmall no_steps (map (λ x. no_steps) xs) (record { steps = omega arith; accepted = omega arith; bytes = omega arith }) (no_steps_small xs)
-
-no_steps_at_all : (xs : List Section) → steps_of (map (λ x. no_steps) xs) ≡ 0
-no_steps_at_all [] = refl
-no_steps_at_all (x ∷ xs) = rw sum_by-cons (let h = no_steps_at_all xs in omega arith)
 
 -- before the first step
 starts_so : (lines : List DomainLine) (s : Script) → IsTrue (is_lawful s)

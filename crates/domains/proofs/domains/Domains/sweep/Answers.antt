@@ -1,7 +1,7 @@
 use Rattle.std.proofs.Common.{◌≡◌, Some, sym, ap, ◌∙◌}
 use Rattle.std.specs.Option.{option_copied_mut}
 use Rattle.argo_model.specs.Rules.State.{Live, domain_of, set_domain, signal_all, life_in}
-use Rattle.argo_model.specs.Rules.Effects.{Change, change_in}
+use Rattle.argo_model.specs.Rules.Effects.{Change}
 use Rattle.domains.specs.Domain.{sweep_if_live, with_left}
 use Rattle.domains.proofs.WorldLaws.{in_any_case, set_domain-same, changed, sweep_acts}
 use Rattle.domains.specs.World.{swept_of}
