@@ -6,42 +6,12 @@ ghost use Rattle.argo_model.specs.Rules.Sweep as sweep;
 ghost use Rattle.paged_live.specs.Parts.{StandsStill};
 ghost use Rattle.ring_core.specs.Held.{Becomes, IsSaid};
 
-use crate::change::Change;
-use crate::live::Live;
 use argo_base::{DomId, Ended, MOST_NOTICES, NoMemory};
-use argo_model::Outcome;
 use ring_core::Ring;
 use std::alloc::Global;
 
-impl Live {
-    /// Ends the notices that fit on the ring with the least serial above `after`. Where memory runs out all stay.
-    pub fn sweep(&mut self, alloc: Global, after: u64) -> Result<Change, NoMemory>
-        ensures outcome { IfOk result (λ c. c.outcome
-            ≡ (sweep.sweep_found self.old (sweep.next_ring after self.old.rings)).outcome) }
-        ensures signals { IfOk result (λ c. c.signals.items
-            ≡ (sweep.sweep_found self.old (sweep.next_ring after self.old.rings)).signals) }
-        ensures left { OnOk result (self.new
-            ≡ effects.after self.old
-            (sweep.sweep_found self.old (sweep.next_ring after self.old.rings))) }
-        ensures err { OnErr result (self.new ≡ self.old) }
-    {
-        let Some(row) = self.rings.after(after) else {
-            return Ok(Change::quiet(alloc, Outcome::NoMore));
-        };
-        let (key, serial) = (row.key, row.serial);
-        let Some(ring) = self.rings.find_exact_mut(key) else {
-            return Ok(Change::quiet(alloc, Outcome::NoMore));
-        };
-        let signals = sweep_ring(alloc, ring)?;
-        Ok(Change {
-            outcome: Outcome::Swept(serial),
-            signals,
-        })
-    }
-}
-
-// Ends the notices of a ring that fit: the domains that are to be signalled. Where memory runs out all stay.
-fn sweep_ring(alloc: Global, ring: &mut Ring) -> Result<Vec<DomId>, NoMemory>
+/// Ends the notices of a ring that fit: the domains that are to be signalled. Where memory runs out all stay.
+pub(crate) fn sweep_ring(alloc: Global, ring: &mut Ring) -> Result<Vec<DomId>, NoMemory>
     ensures signals { IfOk result
         (λ doms. IsSaid ring.old doms.items (λ p. (sweep.sweep_ring p).signals)) }
     ensures left { OnOk result

@@ -1,10 +1,11 @@
 //! A ring that takes a message, is swept, and ends, and whose bytes stay in the memory.
 ghost use Rattle.std.specs.Prelude.{◌<◌, ◌^◌};
 
-use crate::{Live, Offer, Registration};
+use crate::Live;
 use argo_base::slots::{is_legal, page_count};
 use argo_base::{Bytes, DomId, LONGEST_BODY, PageList, RingKey};
-use argo_model::{Load, Outcome};
+use argo_model::{Action, Load, Outcome};
+use live_domain::{KeyedRings, LiveDomain, Offer, Registration};
 use std::alloc::Global;
 use std::process::Abort;
 use std::test::Fail;
@@ -61,7 +62,7 @@ fn is_done(outcome: &Outcome) -> bool {
 #[test]
 fn a_ring_takes_a_message_and_its_bytes_stay(rt: HostRuntime) -> Result<(), Fail> {
     let alloc = rt.alloc();
-    let mut live = Live::fresh(alloc, 3)?;
+    let mut live = Live::fresh(alloc, DomId(1), 3)?;
     assert!(rt; is_done(&register(&rt, alloc, &mut live, 1)?));
     assert!(rt; is_accepted(&send(&rt, alloc, &mut live, &[7; 16])?));
     assert!(rt; !is_accepted(&send(&rt, alloc, &mut live, &[8; 64])?));
