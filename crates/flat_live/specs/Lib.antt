@@ -1,7 +1,5 @@
 pub mod FreePages
-pub mod Live
 pub mod Memory
 pub mod Offers
-pub mod Own
 pub mod Starts
 pub mod Sweeps

@@ -3,23 +3,17 @@
 ghost use Rattle.std.specs.Prelude.{◌≡◌, IfOk, map};
 ghost use Rattle.argo_model.specs.Runs.Closed.{closed_ring};
 
-use crate::live::Live;
 use crate::ring::Ring;
 use argo_base::{Bytes, Message, Messages, NoMemory, PageList, RingKey};
 use argo_model::{ClosedRing, ClosedRings};
 use std::alloc::Global;
 use std::collections::BTreeMap;
 
-impl Live {
-    /// A row for each ring, by rising key. All is copied.
-    pub fn closed_rings(&self, alloc: Global) -> Result<ClosedRings, NoMemory>
-        ensures { IfOk result (λ closed. closed ≡ map closed_ring self.now.rings) }
-    {
-        rings_of(alloc, &self.rings)
-    }
-}
-
-fn rings_of(alloc: Global, rings: &BTreeMap<RingKey, Ring>) -> Result<ClosedRings, NoMemory>
+/// A row for each ring, by rising key. All is copied.
+pub(crate) fn rings_of(
+    alloc: Global,
+    rings: &BTreeMap<RingKey, Ring>,
+) -> Result<ClosedRings, NoMemory>
     ensures { IfOk result (λ closed. closed ≡ map closed_ring rings.now.entries) }
 {
     let mut closed = ClosedRings::new(alloc);

@@ -4,25 +4,14 @@ ghost use Rattle.std.specs.Prelude.{◌≡◌, ◌*◌, IfOk, map, take, drop};
 ghost use Rattle.argo_model.specs.Rules.RingBytes.{ring_bytes, slots};
 ghost use Rattle.argo_model.specs.Runs.Final.{final_ring};
 
-use crate::live::Live;
 use crate::ring::Ring;
 use argo_base::{Bytes, NoMemory, RingKey};
 use argo_model::{FinalRing, FinalRings};
 use std::alloc::Global;
 use std::collections::BTreeMap;
 
-impl Live {
-    /// A row for each ring, by rising key. Where memory runs out all is lost.
-    pub fn into_final_rings(self, alloc: Global) -> Result<FinalRings, NoMemory>
-        ensures { IfOk result (λ finals. finals ≡ map (final_ring self.bytes) self.rings) }
-    {
-        let Live { bytes, rings, .. } = self;
-        rings_of(alloc, bytes.as_slice(), rings)
-    }
-}
-
-// The rings of a domain with this memory.
-fn rings_of(
+/// A row for each ring of a domain with this memory, by rising key.
+pub(crate) fn rings_of(
     alloc: Global,
     memory: &[u8],
     rings: BTreeMap<RingKey, Ring>,

@@ -1,9 +1,8 @@
-//! What a live domain has: its memory in flat bytes, its flag, and its rings, with the acts that touch nothing else.
+//! What a live domain has: its memory in flat bytes, its flag, and its rings, in maps.
 //!
-//! The layer above uses one contract: each act of `Live` is the rule's on what a domain has alive. It stands on argo_model.
+//! The layer above uses `Live`, a `LiveDomain`: each act is the rule's on what a domain has alive. It stands on live_domain.
 #![tactic(auto)]
 
-mod change;
 mod closed_rings;
 mod final_rings;
 mod free_pages;
@@ -20,8 +19,4 @@ mod ring;
 mod spelling;
 mod starts;
 
-pub use change::Change;
 pub use live::Live;
-pub use offers::Offer;
-pub use queries::NO_ANSWER;
-pub use registers::Registration;

@@ -15,24 +15,7 @@ use crate::ring::Ring;
 use crate::spelling::write_message;
 use argo_base::{Bytes, DomId, Errno, Message, NoMemory, slots};
 use argo_model::{Load, Outcome};
-use std::marker::Model;
-
-/// What a sender offers to a ring: its domain, the port that it named, the type, and what was gathered.
-#[derive(Debug, Drop)]
-pub struct Offer {
-    pub sender: DomId,
-    pub port: u32,
-    pub kind: u32,
-    pub load: Load,
-}
-
-impl Model for Offer {
-    ghost use Rattle.argo_model.specs.Rules.Deliver.{Offer as TheOffer};
-
-    ghost Value = { TheOffer };
-
-    ghost view = { λ o. record { sender = o.sender; port = o.port; kind = o.kind; load = o.load } };
-}
+use live_domain::Offer;
 
 impl Ring {
     /// Takes an offer to this ring of a domain with this memory. Where memory runs out all stays.

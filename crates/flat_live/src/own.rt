@@ -1,31 +1,78 @@
-//! Acts of a domain on what it has itself.
-ghost use Rattle.std.specs.Prelude.{◌≡◌, ◌<◌, ◌^◌, IsTrue, IfOk, OnOk, OnErr};
+//! Acts of a domain on its own memory, flag and rings.
+ghost use Rattle.std.specs.Prelude.{◌≡◌, ◌+◌, ◌≤◌, length, nat_lt, ◌/◌, IfOk};
+ghost use Rattle.argo_model.specs.Rules.Act as acts;
 ghost use Rattle.argo_model.specs.Rules.Effects.{after};
-ghost use Rattle.argo_model.specs.Rules.Fit.{is_fit};
-ghost use Rattle.flat_live.specs.Own.{own_change};
+ghost use Rattle.live_domain.specs.Own.{take_away};
 
 use crate::live::Live;
-use argo_base::{Errno, NoMemory, RingKey};
-use argo_model::{Action, Outcome};
+use crate::memory::start_of;
+use crate::puts::put_into_rings;
+use argo_base::{Bytes, Errno, NoMemory, RingKey};
+use argo_model::Outcome;
 use std::alloc::Global;
 
 impl Live {
-    /// An act of this domain, which is on or off, on what it has itself. Where memory runs out all stays.
-    pub fn act(&mut self, alloc: Global, on: bool, action: Action) -> Result<Outcome, NoMemory>
-        requires { IsTrue (is_fit action) }
-        ensures outcome { IfOk result (λ o. o ≡ (own_change on self.old action).outcome) }
-        ensures left { OnOk result (self.new ≡ after self.old (own_change on self.old action)) }
-        ensures err { OnErr result (self.new ≡ self.old) }
+    /// Fetches `n` bytes at an offset of a page.
+    pub(crate) fn fetch(
+        &self,
+        alloc: Global,
+        page: u64,
+        off: u32,
+        n: u32,
+    ) -> Result<Outcome, NoMemory>
+        requires { off + n ≤ 4096 }
+        ensures { IfOk result (λ o. o ≡ acts.fetch self.now page off n) }
     {
-        match action {
-            Action::Fetch { page, off, n } => self.fetch(alloc, page, off, n),
-            Action::Put { page, off, bytes } => Ok(self.put(page, off, bytes.as_slice())),
-            Action::Unregister { port, partner } if on => {
-                Ok(self.unregister(RingKey { port, partner }))
-            }
-            Action::Unregister { .. } => Ok(Outcome::Refused(Errno::NoDev)),
-            Action::Look => Ok(self.look()),
-            _ => Ok(Outcome::Done),
+        let memory = self.bytes.as_slice();
+        if !is_there(memory, page) {
+            return Ok(Outcome::Fault);
         }
+        let (_, rest) = memory.split_at(start_of(memory, page) + off as usize);
+        let (part, _) = rest.split_at(n as usize);
+        Ok(Outcome::Bytes(Bytes::copy_of(alloc, part)?))
     }
+
+    /// Puts bytes at an offset of a page.
+    pub(crate) fn put(&mut self, page: u64, off: u32, bytes: &[u8]) -> Outcome
+        requires { off + length bytes.now ≤ 4096 }
+        ensures outcome { result ≡ (acts.put self.old page off bytes.now).outcome }
+        ensures left { self.new ≡ after self.old (acts.put self.old page off bytes.now) }
+    {
+        let memory = self.bytes.as_slice();
+        if !is_there(memory, page) {
+            return Outcome::Fault;
+        }
+        let at = start_of(memory, page) + off as usize;
+        put_into_rings(&mut self.rings, memory, page, off, bytes);
+        self.bytes.write(at, bytes);
+        Outcome::Done
+    }
+
+    /// Tells the flag, and clears it.
+    pub(crate) fn look(&mut self) -> Outcome
+        ensures outcome { result ≡ (acts.look self.old).outcome }
+        ensures left { self.new ≡ after self.old (acts.look self.old) }
+    {
+        let flag = self.flag;
+        self.flag = false;
+        Outcome::Flag(flag)
+    }
+
+    /// Takes a ring away.
+    pub(crate) fn unregister(&mut self, key: RingKey) -> Outcome
+        ensures outcome { result ≡ (take_away self.old key).outcome }
+        ensures left { self.new ≡ after self.old (take_away self.old key) }
+    {
+        if self.rings.remove(&key).is_none() {
+            return Outcome::Refused(Errno::NoEnt);
+        }
+        Outcome::Done
+    }
+}
+
+// Whether the memory has the page.
+fn is_there(memory: &[u8], page: u64) -> bool
+    ensures { result ≡ nat_lt page (length memory.now / 4096) }
+{
+    page < (memory.len() / 4096) as u64
 }

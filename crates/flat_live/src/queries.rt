@@ -20,13 +20,6 @@ const MSGSIZE: u16 = 16;
 
 const BUSY: u16 = 32;
 
-/// The answer where no ring is met.
-pub const NO_ANSWER: Answer = Answer {
-    flags: 0,
-    need: 0,
-    most: 0,
-};
-
 impl Ring {
     /// Answers a sender that asks for room in this ring, which stands under the key. Where memory runs out the ring stays.
     pub(crate) fn answer(

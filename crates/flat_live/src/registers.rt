@@ -5,78 +5,41 @@ ghost use Rattle.argo_base.specs.Slots.{is_legal, page_count};
 ghost use Rattle.argo_model.specs.declared.action.Outcome.TheVariants.{Done as IsDone};
 ghost use Rattle.argo_model.specs.Rules.Effects.{after};
 ghost use Rattle.argo_model.specs.Rules.Limits.{most_rings};
-ghost use Rattle.argo_model.specs.Rules.Register.{all_differ, are_free_for, has_ring, own_ring, register_allowed, register_own, register_new, resized};
+ghost use Rattle.argo_model.specs.Rules.Register.{all_differ, are_free_for, has_ring, own_ring, register_allowed, register_new, resized};
 ghost use Rattle.argo_model.specs.Rules.RingBytes.{paged, laid};
 ghost use Rattle.argo_model.specs.Rules.Starts.{started};
 ghost use Rattle.flat_live.specs.Memory.{are_there};
 
-use crate::change::Change;
 use crate::live::Live;
 use crate::notices::NoticeMap;
 use crate::ring::Ring;
 use crate::starts::Start;
-use argo_base::{Bytes, Errno, MessageList, NoMemory, PageList, RingKey};
+use argo_base::{Bytes, MessageList, NoMemory, PageList, RingKey};
 use argo_model::Outcome;
+use live_domain::{Change, Registration};
 use std::alloc::Global;
 
 /// The rings of a domain that stand at one time.
 const MOST_RINGS: usize = 128;
 
-/// What a caller asks for when it registers a ring.
-#[derive(Drop)]
-pub struct Registration {
-    pub key: RingKey,
-    pub len: u32,
-    pub pages: PageList,
-    /// Whether a ring that stands already is a refusal.
-    pub fail_exist: bool,
-}
-
 impl Live {
-    /// Registers a ring. Takes memory only before it changes anything.
-    pub fn register(&mut self, alloc: Global, r: Registration) -> Result<Change, NoMemory>
-        requires legal { IsTrue (is_legal r.len) }
-        requires counted { length r.pages ≡ page_count r.len }
-        requires young { self.old.next_serial < 2 ^ 63 }
-        ensures outcome { IfOk result
-            (λ c. c.outcome ≡ (register_own self.old r.key r.len r.pages r.fail_exist).outcome) }
-        ensures signals { IfOk result
-            (λ c. c.signals.items
-            ≡ (register_own self.old r.key r.len r.pages r.fail_exist).signals) }
-        ensures left { OnOk result
-            (self.new ≡ after self.old (register_own self.old r.key r.len r.pages r.fail_exist)) }
-        ensures err { OnErr result (self.new ≡ self.old) }
-    {
-        if self.stands_already(&r) {
-            return Ok(Change::quiet(alloc, Outcome::Refused(Errno::Exist)));
-        }
-        if self.is_full(&r.key) {
-            return Ok(Change::quiet(alloc, Outcome::Refused(Errno::NoSpc)));
-        }
-        if !self.are_free_for(alloc, &r.key, r.pages.as_slice())? {
-            return Ok(Change::quiet(alloc, Outcome::Refused(Errno::Inval)));
-        }
-        let change = self.register_allowed(alloc, r.key, r.len, r.pages)?;
-        Ok(change)
-    }
-
-    // Whether a ring of the key stands, and the caller asked for a refusal then.
-    fn stands_already(&self, r: &Registration) -> bool
+    /// Whether a ring of the key stands, and the caller asked for a refusal then.
+    pub(crate) fn stands_already(&self, r: &Registration) -> bool
         ensures { result ≡ (has_ring self.now r.now.key && r.now.fail_exist) }
     {
         self.rings.contains_key(&r.key) && r.fail_exist
     }
 
-    // Whether no ring of a key under which none stands may be added.
-    fn is_full(&self, key: &RingKey) -> bool
+    /// Whether no ring of a key under which none stands may be added.
+    pub(crate) fn is_full(&self, key: &RingKey) -> bool
         ensures { result
             ≡ (not (has_ring self.now key.now) && nat_le most_rings (length self.now.rings)) }
     {
         !self.rings.contains_key(key) && self.rings.len() >= MOST_RINGS
     }
 
-    // Registers a ring that may stand on these pages.
-    fn register_allowed(
+    /// Registers a ring that may stand on these pages. Takes memory only before it changes anything.
+    pub(crate) fn register_allowed(
         &mut self,
         alloc: Global,
         key: RingKey,

@@ -7,11 +7,11 @@ ghost use Rattle.argo_model.specs.Rules.Register.{stands_so};
 ghost use Rattle.argo_model.specs.Rules.Effects.{after};
 ghost use Rattle.flat_live.specs.Memory.{are_there};
 
-use crate::change::Change;
 use crate::memory::word;
 use crate::notices::NoticeMap;
 use argo_base::{MessageList, NoMemory, PageList, slots};
 use argo_model::Outcome;
+use live_domain::Change;
 use std::alloc::Global;
 use std::marker::Model;
 

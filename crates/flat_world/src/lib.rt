@@ -1,15 +1,9 @@
-//! The plain world: domains with flat memories, lists and maps, in which the sections of a script perform their actions.
+//! The plain world: domains with flat memories, in which the sections of a script perform their actions.
 //!
-//! The layer above uses `FlatWorld`, a `SerialWorld`: it tells its state, and each action is the rule's. It stands on flat_live.
+//! The layer above uses `FlatWorld`, a `SerialWorld`: it tells its state, and each action is the rule's. It stands on flat_live, domains
+//! and section_world.
 #![tactic(auto)]
 
-mod acts;
-mod closed_domains;
-mod domain;
-mod ends;
-mod finals;
-mod flat_world;
-mod own;
-mod world;
+mod flat_domains;
 
-pub use flat_world::FlatWorld;
+pub use flat_domains::{FlatDomains, FlatWorld};

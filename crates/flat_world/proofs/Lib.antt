@@ -1,4 +1,0 @@
-pub mod WorldLaws
-pub mod YoungLaws
-pub mod OutcomeLaws
-pub mod FlatLaws

@@ -1,6 +1,0 @@
-use Rattle.std.proofs.Common.{◌≡◌, map, take}
-use Rattle.argo_model.specs.Runs.Final.{no_steps}
-use Rattle.flat_world.proofs.flat_world.fresh_totals.Given as goal
-
-abbrev pub invariant-loop : goal.invariant-loop
-invariant-loop l = l.totals.items ≡ map (λ x. no_steps) (take l.index l.parts)

@@ -1,7 +1,0 @@
-use Rattle.std.proofs.Common.{◌≡◌, take}
-use Rattle.argo_model.specs.Rules.State.{start_state}
-use Rattle.flat_world.proofs.world.World.new.Given as goal
-
--- the domains of the lines so far
-abbrev pub invariant-loop-line : goal.invariant-loop-line
-invariant-loop-line l = l.domains.entries ≡ start_state (take l.line-index l.lines)

@@ -1,7 +1,0 @@
-use Rattle.std.proofs.Common.{◌≡◌, take}
-use Rattle.argo_model.specs.Rules.State.{signal_all}
-use Rattle.flat_world.proofs.world.World.signal_all.Given as goal
-
--- the domains so far are signalled
-abbrev pub invariant-loop-dom : goal.invariant-loop-dom
-invariant-loop-dom l = l.self ≡ signal_all l.initial.self (take l.dom-index l.doms)

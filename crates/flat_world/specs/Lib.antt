@@ -1,4 +1,0 @@
-pub mod Domain
-pub mod Flat
-pub mod Shown
-pub mod World
