@@ -8,12 +8,13 @@
 mod ends;
 mod listed_domains;
 mod mends;
+#[cfg(test)]
+mod tests;
 mod visits;
 
 pub use listed_domains::ListedDomains;
+use paged_live::Live;
+use section_world::SectionWorld;
 
-//use paged_live::Live;
-//use section_world::SectionWorld;
-
-// The world of a script over paged domains with lists.
-//pub type PlainWorld = SectionWorld<ListedDomains<Live>>;
+/// The world of a script over paged domains with lists.
+pub type PlainWorld = SectionWorld<ListedDomains<Live>>;
