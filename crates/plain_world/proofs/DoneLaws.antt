@@ -5,6 +5,7 @@ use Rattle.std.specs.Map.{lookup}
 use Rattle.std.specs.BTreeMap.{is_at, insert_entry}
 use Rattle.std.proofs.lemmas.Bool.{false≢true}
 use Rattle.std.proofs.lemmas.Bool.Decides.{nat_tests}
+use Rattle.std.proofs.Math.Bool.{and-false}
 use Rattle.argo_base.specs.Match.{key_cmp, key_in, is_wildcard}
 use Rattle.argo_base.specs.Notices.{size_of}
 use Rattle.argo_base.specs.RingIds.{has_id}
@@ -16,9 +17,9 @@ use Rattle.argo_model.specs.Rules.Register.{own_ring}
 use Rattle.argo_model.specs.Rules.State.{State, Domain, Live, Ring, domain_of, live_of, is_alive, change_life, fresh_domain, start_state}
 use Rattle.domain_lists.specs.Lists.{RingLists, ids_of, names}
 use Rattle.plain_world.specs.Levels.{Levels, AreLevel}
-use Rattle.plain_world.proofs.EndLaws.{removed_none}
-use Rattle.plain_world.proofs.LeftLaws.{fit_of}
-use Rattle.plain_world.proofs.RingLaws.{live_found}
+use Rattle.touch_laws.proofs.EndLaws.{removed_none}
+use Rattle.touch_laws.proofs.LeftLaws.{fit_of}
+use Rattle.touch_laws.proofs.RingLaws.{live_found}
 use Rattle.state_laws.specs.Each.{Each, EachTwo}
 use Rattle.state_laws.specs.Valid.{IsLive, IsNotice, IsValid}
 use Rattle.state_laws.proofs.Lists.{each_found}
@@ -154,12 +155,8 @@ started (l ∷ ls) s none = started ls (insert_entry nat_cmp s l.id (fresh_domai
 pub level_start : (lines : List DomainLine) → AreLevel (record { state = start_state lines; sends = []; waits = [] })
 level_start lines = record {
   valid = valid_start lines;
-  sends = λ d id. sym (ap (λ r. (id.partner == d) && is_some r) (none id) ∙ and_false (id.partner == d));
-  waits = λ d id. sym (ap (λ r. is_wildcard id.partner && has_notice r d) (none id) ∙ and_false (is_wildcard id.partner));
+  sends = λ d id. sym (ap (λ r. (id.partner == d) && is_some r) (none id) ∙ and-false (id.partner == d));
+  waits = λ d id. sym (ap (λ r. is_wildcard id.partner && has_notice r d) (none id) ∙ and-false (is_wildcard id.partner));
 } where
   none : (id : RingId) → ring_at (start_state lines) id ≡ None
   none = no_rings (start_state lines) (started lines [] tt)
-
-  and_false : (a : Bool) → (a && false) ≡ false
-  and_false true = refl
-  and_false false = refl

@@ -1,8 +1,8 @@
 -- Laws of a domain without rings that ends, or is reset: nothing changes for the lists.
-use Rattle.std.proofs.Common.{◌≡◌, ℕ, Bool, true, false, cond, not, ◌==◌, [], is_some, Option, Some, None, option_map, refl, sym, ap, ◌∙◌, subst, arith}
+use Rattle.std.proofs.Common.{◌≡◌, ℕ, Bool, true, false, cond, not, ◌==◌, [], is_some, Option, Some, None, option_map, refl, sym, ap, ◌∙◌, subst}
 use Rattle.std.specs.Map.{lookup}
 use Rattle.std.specs.BTreeMap.{is_at}
-use Rattle.std.proofs.lemmas.Bool.Decides.{nat_tests}
+use Rattle.touch_laws.proofs.NumberLaws.{eq_same}
 use Rattle.argo_base.specs.Match.{key_cmp, key_in}
 use Rattle.argo_base.specs.declared.errno.Errno.TheVariants.{Srch}
 use Rattle.argo_base.specs.declared.ring_key.RingId.{RingId}
@@ -12,16 +12,13 @@ use Rattle.argo_model.specs.Rules.Destroy.{forget, gone_domain, reset_live, chan
 use Rattle.argo_model.specs.Rules.Effects.{refuse_if, leaving}
 use Rattle.argo_model.specs.Rules.State.{State, Domain, Live, domain_of, live_of, is_alive, change_found, change_domain, change_life}
 use Rattle.plain_world.specs.Levels.{Levels, AreLevel}
-use Rattle.plain_world.proofs.ActLaws.{Same}
+use Rattle.touch_laws.specs.Touches.{Same}
 use Rattle.plain_world.proofs.LevelActs.{level_same}
-use Rattle.plain_world.proofs.RingLaws.{ring_set, live_found}
+use Rattle.touch_laws.proofs.RingLaws.{ring_set, live_found}
 use Rattle.state_laws.specs.Valid.{IsValid}
 use Rattle.state_laws.proofs.StateActs.{valid_destroy, valid_reset}
 use Rattle.live_domain.specs.Keyed.{has_notice}
 use Rattle.domains.specs.ById.{rings_in, rings_of, ring_in, ring_at}
-
-eq_same : (a b : ℕ) → (a == b) ≡ true → a ≡ b
-eq_same a b h = grind (arith, nat_tests)
 
 -- a change of a domain that has no rings, after which it has none
 none_change : (s : State) (d : ℕ) (fin : Domain → Domain) → ((x : Domain) (k : RingKey) → rings_in x.life ≡ [] → ring_in (fin x).life k ≡ ring_in x.life k) → rings_of s d ≡ []

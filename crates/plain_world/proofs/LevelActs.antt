@@ -1,7 +1,8 @@
 -- Laws of the levels after an act: valid, and with exact lists.
-use Rattle.std.proofs.Common.{◌≡◌, ℕ, Bool, true, false, ◌==◌, ◌&&◌, ◌||◌, not, List, [], ◌∷◌, is_some, Option, Some, None, Result, Ok, Err, IfOk, OnErr, refl, sym, ap, ◌∙◌, subst, arith}
+use Rattle.std.proofs.Common.{◌≡◌, ℕ, Bool, true, false, ◌==◌, ◌&&◌, ◌||◌, not, List, [], ◌∷◌, is_some, Option, Some, None, Result, Ok, Err, IfOk, OnErr, refl, sym, ap, ◌∙◌, subst}
 use Rattle.std.specs.BTreeMap.{is_at}
-use Rattle.std.proofs.lemmas.Bool.Decides.{nat_tests}
+use Rattle.touch_laws.proofs.NumberLaws.{eq_same, eq_self, eq_turned}
+use Rattle.std.proofs.Math.Bool.{and-true, and-false, or-false}
 use Rattle.argo_base.specs.Match.{id_cmp, is_wildcard}
 use Rattle.argo_base.specs.Notices.{Notices, doms_of}
 use Rattle.argo_base.specs.declared.no_memory.NoMemory.{NoMemory}
@@ -12,11 +13,11 @@ use Rattle.argo_model.specs.Rules.Register.{has_number}
 use Rattle.argo_model.specs.Rules.State.{State, Ring}
 use Rattle.domain_lists.specs.Lists.{RingLists, names, is_pair}
 use Rattle.plain_world.specs.Levels.{Levels, AreLevel, AreSends, AreWaits}
-use Rattle.plain_world.specs.Touches.{is_touched, Touches}
-use Rattle.plain_world.proofs.ActLaws.{Same, Notes}
-use Rattle.plain_world.proofs.LeftLaws.{ended_other, ended_here, noted_stands, noted_apart, noted_here, valid_notice}
+use Rattle.touch_laws.specs.Touches.{is_touched, Touches}
+use Rattle.touch_laws.specs.Touches.{Same, Notes}
+use Rattle.touch_laws.proofs.LeftLaws.{ended_other, ended_here, noted_stands, noted_apart, noted_here, valid_notice}
 use Rattle.plain_world.proofs.LevelLaws.{sends_kept, waits_kept, sends_mended, waits_mended, waits_apart, kept_apart, kept_here, off_apart, off_here, off_single}
-use Rattle.plain_world.proofs.NoticeLaws.{not_waiting}
+use Rattle.touch_laws.proofs.NoticeLaws.{not_waiting}
 use Rattle.state_laws.specs.Valid.{IsValid}
 use Rattle.domain_lists.proofs.IdLaws.{id_same, id_self}
 use Rattle.live_domain.specs.Keyed.{has_notice, noted_on}
@@ -35,33 +36,11 @@ level_same w t valid same level = record {
   waits = waits_kept w.state t w.waits same.notices level.waits;
 }
 
-or_none : (a : Bool) → (a || false) ≡ a
-or_none true = refl
-or_none false = refl
-
-and_none : (a : Bool) → (a && false) ≡ false
-and_none true = refl
-and_none false = refl
-
-pub turned : (a b : ℕ) → (a == b) ≡ (b == a)
-turned a b = by (a == b) (b == a) refl refl where
-  both_ways : (a b : ℕ) → (a == b) ≡ true → (b == a) ≡ true
-  both_ways a b h = grind (arith, nat_tests)
-
-  by : (t u : Bool) → (a == b) ≡ t → (b == a) ≡ u → t ≡ u
-  by true true e f = refl
-  by false false e f = refl
-  by true false e f = sym (both_ways a b e) ∙ f
-  by false true e f = sym e ∙ both_ways b a f
-
-eq_same : (a b : ℕ) → (a == b) ≡ true → a ≡ b
-eq_same a b h = grind (arith, nat_tests)
-
 one_pair : (dom : ℕ) (id : RingId) (d : ℕ) (x : RingId) → is_pair dom id d x ≡ is_touched id (dom ∷ []) x d
-one_pair dom id d x = ap (λ b. b && is_at (id_cmp id) x) (turned d dom ∙ sym (or_none (dom == d)))
+one_pair dom id d x = ap (λ b. b && is_at (id_cmp id) x) (eq_turned d dom ∙ sym (or-false (dom == d)))
 
 one_is : (dom d : ℕ) → has_number (dom ∷ []) d ≡ true → dom ≡ d
-one_is dom d h = eq_same dom d (sym (or_none (dom == d)) ∙ h)
+one_is dom d h = eq_same dom d (sym (or-false (dom == d)) ∙ h)
 
 -- ---- one domain may wait on one ring, or not
 
@@ -85,7 +64,7 @@ level_noted_apart w t id dom valid notes single level = record {
   valid = valid;
   sends = sends_kept w.state t w.sends notes.stands level.sends;
   waits = waits_apart w.state t w.waits id level.waits single
-      (λ x d apart. notes.notices x d (ap (λ b. has_number (dom ∷ []) d && b) apart ∙ and_none (has_number (dom ∷ []) d)));
+      (λ x d apart. notes.notices x d (ap (λ b. has_number (dom ∷ []) d && b) apart ∙ and-false (has_number (dom ∷ []) d)));
 }
 
 -- ---- some notices on one ring ended
@@ -93,7 +72,7 @@ level_noted_apart w t id dom valid notes single level = record {
 module _ (w : Levels) (t : State) (id : RingId) (doms : List ℕ) (touches : Touches w.state t id doms) (level : AreLevel w) where
   waits_stay : is_wildcard id.partner ≡ false → AreWaits t w.waits
   waits_stay single = waits_apart w.state t w.waits id level.waits single
-      (λ x d apart. touches.notices x d (ap (λ b. has_number doms d && b) apart ∙ and_none (has_number doms d)))
+      (λ x d apart. touches.notices x d (ap (λ b. has_number doms d && b) apart ∙ and-false (has_number doms d)))
 
   pub waits_off : (new : RingLists) → ((d : ℕ) (x : RingId) → names new d x ≡ (names w.waits d x && not (has_number doms d && is_at (id_cmp id) x))) → AreWaits t new
   waits_off new off = by (is_wildcard id.partner) refl where
@@ -121,14 +100,11 @@ module _ (w : Levels) (t : State) (id : RingId) (doms : List ℕ) (touches : Tou
 module _ (w : Levels) (id : RingId) (level : AreLevel w) where
   pub sends_without : (new : RingLists) (dom : ℕ) → dom ≡ id.partner → ((d : ℕ) (x : RingId) → names new d x ≡ (names w.sends d x && not (is_pair dom id d x))) → AreSends (ring_ended w.state id) new
   sends_without new dom same off = with_off (subst (λ q. (d : ℕ) (x : RingId) → names new d x ≡ (names w.sends d x && not (is_pair q id d x))) same off) where
-    self : (d : ℕ) → (d == d) ≡ true
-    self d = grind (arith, nat_tests)
-
     with_off : ((d : ℕ) (x : RingId) → names new d x ≡ (names w.sends d x && not (is_pair id.partner id d x))) → AreSends (ring_ended w.state id) new
     with_off off =
         sends_mended w.state (ring_ended w.state id) w.sends new id level.sends
         (λ d x none. off_apart w.sends new (is_pair id.partner id d x) d x (off d x) none)
-        (off_here w.sends new (is_pair id.partner id id.partner id) id.partner id (off id.partner id) (ap (λ b. b && is_at (id_cmp id) id) (self id.partner) ∙ id_self id)
+        (off_here w.sends new (is_pair id.partner id id.partner id) id.partner id (off id.partner id) (ap (λ b. b && is_at (id_cmp id) id) (eq_self id.partner) ∙ id_self id)
         ∙ sym (ap is_some (ended_here w.state id level.valid)))
         (λ x apart. ap is_some (ended_other w.state id x apart))
 
@@ -138,10 +114,6 @@ module _ (w : Levels) (id : RingId) (level : AreLevel w) where
   pub waits_without : (new : RingLists) (ns : Notices) → ns ≡ noted_on (ring_at w.state id)
       → ((d : ℕ) (x : RingId) → names new d x ≡ (names w.waits d x && not (has_number (doms_of ns) d && is_at (id_cmp id) x))) → AreWaits (ring_ended w.state id) new
   waits_without new ns ns_are off = cases (is_wildcard id.partner) refl where
-    and_true : (a : Bool) → (a && true) ≡ a
-    and_true true = refl
-    and_true false = refl
-
     unnoted : (o : Option Ring) (d : ℕ) → has_number (doms_of (noted_on o)) d ≡ false → has_notice o d ≡ false
     unnoted None d h = refl
     unnoted (Some r) d h = not_waiting r.notices d h
@@ -150,7 +122,7 @@ module _ (w : Levels) (id : RingId) (level : AreLevel w) where
     by x d none false apart = ap (λ r. has_notice r d) (ended_other w.state id x apart)
     by x d none true hit =
         let same = id_same id x hit in
-        let out : has_number (doms_of ns) d ≡ false = sym (and_true (has_number (doms_of ns) d)) ∙ ap (λ b. has_number (doms_of ns) d && b) (sym hit) ∙ none in
+        let out : has_number (doms_of ns) d ≡ false = sym (and-true (has_number (doms_of ns) d)) ∙ ap (λ b. has_number (doms_of ns) d && b) (sym hit) ∙ none in
         ap (λ y. is_noted (ring_ended w.state id) y d) (sym same) ∙ ap (λ r. has_notice r d) (ended_here w.state id level.valid)
         ∙ sym (unnoted (ring_at w.state id) d (ap (λ l. has_number (doms_of l) d) (sym ns_are) ∙ out)) ∙ ap (λ y. is_noted w.state y d) same
 

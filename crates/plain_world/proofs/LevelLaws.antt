@@ -1,7 +1,8 @@
 -- Laws of the lists: they are exact after an act, where they are mended for what it touched.
-use Rattle.std.proofs.Common.{◌≡◌, ℕ, Bool, true, false, ◌==◌, ◌&&◌, ◌||◌, not, List, refl, sym, ap, ◌∙◌, arith}
+use Rattle.std.proofs.Common.{◌≡◌, ℕ, Bool, true, false, ◌==◌, ◌&&◌, ◌||◌, not, List, refl, sym, ap, ◌∙◌}
 use Rattle.std.specs.BTreeMap.{is_at}
-use Rattle.std.proofs.lemmas.Bool.Decides.{nat_tests}
+use Rattle.touch_laws.proofs.NumberLaws.{eq_same, eq_self, eq_turned}
+use Rattle.std.proofs.Math.Bool.{and-true, and-false}
 use Rattle.argo_base.specs.Match.{id_cmp, is_wildcard}
 use Rattle.argo_base.specs.declared.ring_key.RingId.{RingId}
 use Rattle.argo_model.specs.Rules.Register.{has_number}
@@ -9,30 +10,8 @@ use Rattle.argo_model.specs.Rules.State.{State}
 use Rattle.domain_lists.specs.Lists.{RingLists, names, is_pair}
 use Rattle.domain_lists.proofs.IdLaws.{id_same, id_self}
 use Rattle.plain_world.specs.Levels.{is_for, waits_on, AreSends, AreWaits}
-use Rattle.plain_world.specs.Touches.{is_touched}
+use Rattle.touch_laws.specs.Touches.{is_touched}
 use Rattle.domains.specs.ById.{stands, is_noted}
-
-and_true : (a : Bool) → (a && true) ≡ a
-and_true true = refl
-and_true false = refl
-
-and_false : (a : Bool) → (a && false) ≡ false
-and_false true = refl
-and_false false = refl
-
-eq_same : (a b : ℕ) → (a == b) ≡ true → a ≡ b
-eq_same a b h = grind (arith, nat_tests)
-
-eq_turned : (a b : ℕ) → (a == b) ≡ (b == a)
-eq_turned a b = by (a == b) (b == a) refl refl where
-  both_ways : (a b : ℕ) → (a == b) ≡ true → (b == a) ≡ true
-  both_ways a b h = grind (arith, nat_tests)
-
-  by : (t u : Bool) → (a == b) ≡ t → (b == a) ≡ u → t ≡ u
-  by true true e f = refl
-  by false false e f = refl
-  by true false e f = sym (both_ways a b e) ∙ f
-  by false true e f = sym e ∙ both_ways b a f
 
 -- ---- where nothing comes or goes
 
@@ -65,7 +44,7 @@ sends_mended s t old new id exact apart here others d x = by (is_at (id_cmp id) 
       let other : (x.partner == d) ≡ false = ap (λ (y : RingId). y.partner == d) (sym same) ∙ eq_turned id.partner d ∙ own in
       apart d x pair ∙ exact d x ∙ ap (λ b. b && stands s x) other ∙ ap (λ b. b && stands t x) (sym other)
   by false own hit is =
-      apart d x (ap (λ b. (d == id.partner) && b) hit ∙ and_false (d == id.partner)) ∙ exact d x
+      apart d x (ap (λ b. (d == id.partner) && b) hit ∙ and-false (d == id.partner)) ∙ exact d x
       ∙ ap (λ b. (x.partner == d) && b) (sym (others x hit))
 
 -- ---- wildcard lists
@@ -87,7 +66,7 @@ waits_mended s t old new id doms exact wild apart here others d x = by (is_at (i
       ap (λ y. names new d y) (sym same) ∙ here d own ∙ ap (λ y. is_noted t y d) same
       ∙ ap (λ b. b && is_noted t x d) (sym (ap (λ (y : RingId). is_wildcard y.partner) (sym same) ∙ wild))
   by true false hit own = rest (ap (λ b. b && is_at (id_cmp id) x) own)
-  by false own hit is = rest (ap (λ b. has_number doms d && b) hit ∙ and_false (has_number doms d))
+  by false own hit is = rest (ap (λ b. has_number doms d && b) hit ∙ and-false (has_number doms d))
 
 -- ---- lists that were mended
 
@@ -97,12 +76,10 @@ pub kept_apart : (old mid new : RingLists) (dom : ℕ) (id : RingId) (keep : Boo
     → ((d : ℕ) (x : RingId) → names new d x ≡ (names mid d x && (not (is_pair dom id d x) || keep)))
     → (d : ℕ) (x : RingId) → is_pair dom id d x ≡ false → names new d x ≡ names old d x
 kept_apart old mid new dom id keep added kept d x none =
-    kept d x ∙ ap (λ b. names mid d x && (not b || keep)) none ∙ and_true (names mid d x) ∙ added d x ∙ ap (λ b. b || names old d x) none
+    kept d x ∙ ap (λ b. names mid d x && (not b || keep)) none ∙ and-true (names mid d x) ∙ added d x ∙ ap (λ b. b || names old d x) none
 
 self_pair : (dom : ℕ) (id : RingId) → is_pair dom id dom id ≡ true
-self_pair dom id = ap (λ b. b && is_at (id_cmp id) id) self ∙ id_self id where
-  self : (dom == dom) ≡ true
-  self = grind (arith, nat_tests)
+self_pair dom id = ap (λ b. b && is_at (id_cmp id) id) (eq_self dom) ∙ id_self id
 
 pub kept_here : (old mid new : RingLists) (dom : ℕ) (id : RingId) (keep : Bool)
     → ((d : ℕ) (x : RingId) → names mid d x ≡ (is_pair dom id d x || names old d x))
@@ -114,10 +91,10 @@ kept_here old mid new dom id keep added kept =
 
 -- rings that were taken off lists
 pub off_apart : (old new : RingLists) (gone : Bool) (d : ℕ) (x : RingId) → names new d x ≡ (names old d x && not gone) → gone ≡ false → names new d x ≡ names old d x
-off_apart old new gone d x is none = is ∙ ap (λ b. names old d x && not b) none ∙ and_true (names old d x)
+off_apart old new gone d x is none = is ∙ ap (λ b. names old d x && not b) none ∙ and-true (names old d x)
 
 pub off_here : (old new : RingLists) (gone : Bool) (d : ℕ) (x : RingId) → names new d x ≡ (names old d x && not gone) → gone ≡ true → names new d x ≡ false
-off_here old new gone d x is hit = is ∙ ap (λ b. names old d x && not b) hit ∙ and_false (names old d x)
+off_here old new gone d x is hit = is ∙ ap (λ b. names old d x && not b) hit ∙ and-false (names old d x)
 
 -- what goes on at a ring that is for one domain changes no wildcard list
 pub waits_apart : (s t : State) (waits : RingLists) (id : RingId) → AreWaits s waits → is_wildcard id.partner ≡ false
@@ -137,4 +114,4 @@ off_single s old new id doms exact single off d x = by (is_at (id_cmp id) x) ref
   by true hit =
       let none : names old d x ≡ false = exact d x ∙ ap (λ b. b && is_noted s x d) (ap (λ (y : RingId). is_wildcard y.partner) (sym (id_same id x hit)) ∙ single) in
       off d x ∙ ap (λ b. b && not (has_number doms d && is_at (id_cmp id) x)) none ∙ sym none
-  by false apart = off_apart old new (has_number doms d && is_at (id_cmp id) x) d x (off d x) (ap (λ b. has_number doms d && b) apart ∙ and_false (has_number doms d))
+  by false apart = off_apart old new (has_number doms d && is_at (id_cmp id) x) d x (off d x) (ap (λ b. has_number doms d && b) apart ∙ and-false (has_number doms d))

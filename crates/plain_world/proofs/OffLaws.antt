@@ -2,16 +2,13 @@
 use Rattle.std.proofs.Common.{◌≡◌, ℕ, suc, zero, ◌<◌, ◌==◌, ◌&&◌, ◌||◌, not, Bool, true, false, List, [], ◌∷◌, take, length, get_or, slice_get, Some, refl, sym, ap, ◌∙◌}
 use Rattle.std.specs.BTreeMap.{is_at}
 use Rattle.std.proofs.lemmas.Option.{slice_get-get_or}
+use Rattle.touch_laws.proofs.NumberLaws.{eq_turned}
+use Rattle.std.proofs.Math.Bool.{or-false}
 use Rattle.argo_base.specs.Match.{id_cmp}
 use Rattle.argo_base.specs.Notices.{Notices, doms_of}
 use Rattle.argo_base.specs.declared.ring_key.RingId.{RingId}
 use Rattle.argo_model.specs.Rules.Register.{has_number}
 use Rattle.domain_lists.specs.Lists.{RingLists, names, is_pair}
-use Rattle.plain_world.proofs.LevelActs.{turned}
-
-or_none : (a : Bool) → (a || false) ≡ a
-or_none true = refl
-or_none false = refl
 
 assoc : (a b c : Bool) → (a || (b || c)) ≡ ((a || b) || c)
 assoc true b c = refl
@@ -21,14 +18,14 @@ taken_one : (xs : List ℕ) (i x d : ℕ) → slice_get xs i ≡ Some x → has_
 taken_one [] i x d here = cc
 taken_one (y ∷ ys) zero x d here =
     let same : y ≡ x = cc in
-    or_none (y == d) ∙ ap (λ z. z == d) same
+    or-false (y == d) ∙ ap (λ z. z == d) same
 taken_one (y ∷ ys) (suc i) x d here = ap (λ b. (y == d) || b) (taken_one ys i x d here) ∙ assoc (y == d) (has_number (take i ys) d) (x == d)
 
 noted_one : (ns : Notices) (i : ℕ) (n : ℕ × ℕ) (d : ℕ) → slice_get ns i ≡ Some n → has_number (doms_of (take (suc i) ns)) d ≡ (has_number (doms_of (take i ns)) d || (n.0 == d))
 noted_one [] i n d here = cc
 noted_one (m ∷ ms) zero n d here =
     let same : m ≡ n = cc in
-    or_none (m.0 == d) ∙ ap (λ (z : ℕ × ℕ). z.0 == d) same
+    or-false (m.0 == d) ∙ ap (λ (z : ℕ × ℕ). z.0 == d) same
 noted_one (m ∷ ms) (suc i) n d here = ap (λ b. (m.0 == d) || b) (noted_one ms i n d here) ∙ assoc (m.0 == d) (has_number (doms_of (take i ms)) d) (n.0 == d)
 
 one_more : (n a b h : Bool) → ((n && not (a && h)) && not (b && h)) ≡ (n && not ((a || b) && h))
@@ -50,7 +47,7 @@ module _ (old mid new : RingLists) (id : RingId) where
   step so_far then dom more went off d x =
       off d x
       ∙ ap (λ b. b && not (is_pair dom id d x)) (went d x)
-      ∙ ap (λ b. (names old d x && not (has_number so_far d && is_at (id_cmp id) x)) && not (b && is_at (id_cmp id) x)) (turned d dom)
+      ∙ ap (λ b. (names old d x && not (has_number so_far d && is_at (id_cmp id) x)) && not (b && is_at (id_cmp id) x)) (eq_turned d dom)
       ∙ one_more (names old d x) (has_number so_far d) (dom == d) (is_at (id_cmp id) x)
       ∙ ap (λ b. names old d x && not (b && is_at (id_cmp id) x)) (sym (more d))
 

@@ -3,7 +3,8 @@ ghost use Rattle.std.specs.Prelude.{◌≡◌, ◌+◌, ◌-◌, ◌≤◌, ◌=
 ghost use Rattle.argo_model.specs.Rules.Destroy as rules;
 ghost use Rattle.domain_lists.specs.Lists.{ids_of, AreNoLonger};
 ghost use Rattle.domains.specs.ById.{ring_ended, rings_of};
-ghost use Rattle.plain_world.specs.Ends.{EndSame, AreFew};
+ghost use Rattle.plain_world.specs.Ends.{AreFew};
+ghost use Rattle.touch_laws.specs.Ends.{EndSame};
 
 use crate::listed_domains::ListedDomains;
 use crate::mends::take_off_noted;

@@ -8,6 +8,8 @@
 mod ends;
 mod listed_domains;
 mod mends;
+#[cfg(test)]
+mod tests;
 mod visits;
 
 pub use listed_domains::ListedDomains;
@@ -15,5 +17,5 @@ pub use listed_domains::ListedDomains;
 use paged_live::Live;
 use section_world::SectionWorld;
 
-/// The world of a script over domains on pages, with lists.
+/// The world of a script over paged domains with lists.
 pub type PlainWorld = SectionWorld<ListedDomains<Live>>;

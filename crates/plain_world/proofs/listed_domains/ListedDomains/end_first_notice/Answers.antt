@@ -2,8 +2,8 @@ use Rattle.std.proofs.Common.{sym, ap, ◌∙◌, subst}
 use Rattle.argo_model.specs.Rules.Destroy.{forget}
 use Rattle.argo_model.specs.Rules.State.{State}
 use Rattle.plain_world.specs.Levels.{Levels, AreLevel}
-use Rattle.plain_world.proofs.EndLaws.{notice_forgot}
-use Rattle.plain_world.proofs.LeftLaws.{none_noted}
+use Rattle.touch_laws.proofs.EndLaws.{notice_forgot}
+use Rattle.touch_laws.proofs.LeftLaws.{none_noted}
 use Rattle.plain_world.proofs.LevelActs.{level_notice}
 use Rattle.plain_world.proofs.listed_domains.ListedDomains.end_first_notice.Goals as goal
 use Rattle.domains.specs.ById.{rings_of}

@@ -1,10 +1,10 @@
 use Rattle.std.proofs.Common.{◌≡◌, ◌-◌, true, length, sym, ap, ◌∙◌, subst}
 use Rattle.argo_model.specs.Rules.Destroy.{forget}
 use Rattle.argo_model.specs.Rules.State.{State}
-use Rattle.plain_world.specs.Ends.{EndSame}
+use Rattle.touch_laws.specs.Ends.{EndSame}
 use Rattle.plain_world.specs.Levels.{Levels}
-use Rattle.plain_world.proofs.EndLaws.{own_ended}
-use Rattle.plain_world.proofs.LeftLaws.{one_fewer}
+use Rattle.touch_laws.proofs.EndLaws.{own_ended}
+use Rattle.touch_laws.proofs.LeftLaws.{one_fewer}
 use Rattle.state_laws.specs.Valid.{IsValid}
 use Rattle.plain_world.proofs.listed_domains.ListedDomains.end_first_ring.Goals as goal
 use Rattle.domains.specs.ById.{ring_ended, rings_of, stands}

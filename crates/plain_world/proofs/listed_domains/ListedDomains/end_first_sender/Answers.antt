@@ -3,8 +3,8 @@ use Rattle.argo_base.specs.Match.{key_in}
 use Rattle.argo_model.specs.Rules.Destroy.{forget}
 use Rattle.argo_model.specs.Rules.State.{State}
 use Rattle.plain_world.specs.Levels.{Levels, AreLevel}
-use Rattle.plain_world.proofs.EndLaws.{sender_ended}
-use Rattle.plain_world.proofs.LeftLaws.{valid_end, still_none}
+use Rattle.touch_laws.proofs.EndLaws.{sender_ended}
+use Rattle.touch_laws.proofs.LeftLaws.{valid_end, still_none}
 use Rattle.plain_world.proofs.LevelActs.{sender_is, sender_for, sends_without, waits_without}
 use Rattle.state_laws.proofs.Lives.{key_same}
 use Rattle.plain_world.proofs.listed_domains.ListedDomains.end_first_sender.Goals as goal

@@ -1,7 +1,7 @@
 use Rattle.std.proofs.Common.{refl, sym, subst}
 use Rattle.argo_model.specs.Rules.State.{State}
 use Rattle.plain_world.specs.Levels.{Levels, AreLevel}
-use Rattle.plain_world.proofs.LeftLaws.{valid_end}
+use Rattle.touch_laws.proofs.LeftLaws.{valid_end}
 use Rattle.plain_world.proofs.LevelActs.{sends_without, waits_without}
 use Rattle.plain_world.proofs.listed_domains.ListedDomains.end_ring.Goals as goal
 

@@ -1,7 +1,7 @@
 use Rattle.std.proofs.Common.{◌≡◌, ◌+◌, length}
 use Rattle.argo_model.specs.Rules.Destroy.{forget}
 use Rattle.domain_lists.specs.Lists.{AreNoLonger}
-use Rattle.plain_world.specs.Ends.{EndSame}
+use Rattle.touch_laws.specs.Ends.{EndSame}
 use Rattle.plain_world.proofs.listed_domains.ListedDomains.end_rings.Given as goal
 use Rattle.domains.specs.ById.{rings_of}
 

@@ -2,7 +2,7 @@ use Rattle.std.proofs.Common.{ap, subst}
 use Rattle.argo_model.specs.Rules.Destroy.{create}
 use Rattle.argo_model.specs.Rules.State.{State}
 use Rattle.plain_world.specs.Levels.{Levels, AreLevel}
-use Rattle.plain_world.proofs.ActLaws.{create_same}
+use Rattle.touch_laws.proofs.ActLaws.{create_same}
 use Rattle.plain_world.proofs.LevelActs.{level_same}
 use Rattle.state_laws.proofs.StateActs.{valid_create}
 use Rattle.plain_world.proofs.listed_domains.ListedDomainsDomainActs.create.Goals as goal

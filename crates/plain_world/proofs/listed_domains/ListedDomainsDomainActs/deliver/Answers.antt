@@ -5,7 +5,8 @@ use Rattle.argo_model.specs.Rules.Act.{act}
 use Rattle.argo_model.specs.Rules.Deliver.{Offer}
 use Rattle.argo_model.specs.Rules.State.{State}
 use Rattle.plain_world.specs.Levels.{Levels, AreLevel}
-use Rattle.plain_world.proofs.ActLaws.{Notes, notes_self, deliver_notes}
+use Rattle.touch_laws.specs.Touches.{Notes}
+use Rattle.touch_laws.proofs.ActLaws.{notes_self, deliver_notes}
 use Rattle.plain_world.proofs.LevelActs.{either, level_noted, level_noted_apart}
 use Rattle.state_laws.proofs.Courses.{valid_fit}
 use Rattle.plain_world.proofs.listed_domains.ListedDomainsDomainActs.deliver.Goals as goal

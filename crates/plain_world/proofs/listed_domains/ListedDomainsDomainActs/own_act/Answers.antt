@@ -3,7 +3,7 @@ use Rattle.argo_model.specs.declared.scripts.Actor.TheVariants.{Vcpu}
 use Rattle.argo_model.specs.Rules.Act.{act}
 use Rattle.argo_model.specs.Rules.State.{State}
 use Rattle.plain_world.specs.Levels.{Levels, AreLevel}
-use Rattle.plain_world.proofs.ActLaws.{own_same}
+use Rattle.touch_laws.proofs.ActLaws.{own_same}
 use Rattle.plain_world.proofs.LevelActs.{level_same}
 use Rattle.state_laws.proofs.Courses.{valid_fit}
 use Rattle.plain_world.proofs.listed_domains.ListedDomainsDomainActs.own_act.Goals as goal

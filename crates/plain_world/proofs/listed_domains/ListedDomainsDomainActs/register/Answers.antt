@@ -3,13 +3,13 @@ use Rattle.argo_model.specs.declared.scripts.Actor.TheVariants.{Vcpu}
 use Rattle.argo_model.specs.Rules.Act.{act}
 use Rattle.argo_model.specs.Rules.State.{State}
 use Rattle.plain_world.specs.Levels.{Levels, AreLevel}
-use Rattle.plain_world.specs.Touches.{Touches}
-use Rattle.plain_world.proofs.TouchLaws.{registers_touches}
+use Rattle.touch_laws.specs.Touches.{Touches}
+use Rattle.touch_laws.proofs.TouchLaws.{registers_touches}
 use Rattle.argo_base.specs.declared.ring_key.RingId.{RingId}
 use Rattle.live_domain.specs.declared.registration.Registration.{Registration}
 use Rattle.domains.specs.World.{registered}
 use Rattle.plain_world.proofs.LevelActs.{sends_in, waits_off}
-use Rattle.plain_world.proofs.RingLaws.{touches_same}
+use Rattle.touch_laws.proofs.RingLaws.{touches_same}
 use Rattle.state_laws.specs.Valid.{IsValid}
 use Rattle.state_laws.proofs.Courses.{valid_fit}
 use Rattle.plain_world.proofs.listed_domains.ListedDomainsDomainActs.register.Goals as goal

@@ -4,10 +4,10 @@ use Rattle.argo_model.specs.declared.scripts.Actor.TheVariants.{Vcpu}
 use Rattle.argo_model.specs.Rules.Act.{act}
 use Rattle.argo_model.specs.Rules.State.{State}
 use Rattle.plain_world.specs.Levels.{Levels, AreLevel}
-use Rattle.plain_world.specs.Touches.{Touches}
+use Rattle.touch_laws.specs.Touches.{Touches}
 use Rattle.plain_world.proofs.LevelActs.{waits_off}
 use Rattle.plain_world.proofs.LevelLaws.{sends_kept}
-use Rattle.plain_world.proofs.TouchLaws.{sweep_touches, sweep_stands}
+use Rattle.touch_laws.proofs.TouchLaws.{sweep_touches, sweep_stands}
 use Rattle.state_laws.proofs.Courses.{valid_fit}
 use Rattle.plain_world.proofs.listed_domains.ListedDomainsDomainActs.sweep.Goals as goal
 use Rattle.domains.specs.ById.{id_in, next_key}

@@ -11,7 +11,7 @@ use Rattle.argo_base.specs.declared.ring_key.RingKey.{RingKey}
 use Rattle.argo_model.specs.Rules.Destroy.{ring_without, rings_without, live_without, forget, gone_domain, reset_live}
 use Rattle.argo_model.specs.Rules.Register.{own_ring, without_ring}
 use Rattle.argo_model.specs.Rules.State.{State, Domain, Live, Ring, domain_of, set_domain, is_alive, change_found, change_domain, change_life}
-use Rattle.plain_world.specs.Ends.{EndSame}
+use Rattle.touch_laws.specs.Ends.{EndSame}
 use Rattle.state_laws.specs.Each.{EachTwo}
 use Rattle.state_laws.specs.Valid.{IsLive, IsRing, IsValid}
 use Rattle.state_laws.proofs.Domains.{fit_found, get_map, get_set_same}

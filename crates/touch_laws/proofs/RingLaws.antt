@@ -6,6 +6,7 @@ use Rattle.std.specs.Ordering.{nat_cmp, ordering_then, is_eq}
 use Rattle.std.specs.BTreeMap.{is_at}
 use Rattle.std.proofs.lemmas.Bool.{false_from_ne_true, false≢true}
 use Rattle.std.proofs.lemmas.Bool.Decides.{nat_tests}
+use Rattle.touch_laws.proofs.NumberLaws.{eq_same, eq_apart, eq_self}
 use Rattle.argo_base.specs.Match.{key_cmp, id_cmp, key_in}
 use Rattle.argo_base.specs.declared.ring_key.RingId.{RingId}
 use Rattle.argo_base.specs.declared.ring_key.RingKey.{RingKey}
@@ -13,18 +14,12 @@ use Rattle.argo_model.specs.Rules.Effects.{Change, change_in, set_left, with_lif
 use Rattle.argo_model.specs.Rules.Register.{own_ring, has_number}
 use Rattle.argo_model.specs.Rules.State.{State, Domain, Live, domain_of, set_domain, live_of, change_found, change_domain, flagged, signalled, signal, signal_all}
 use Rattle.domain_lists.proofs.IdLaws.{id_same}
-use Rattle.plain_world.specs.Touches.{is_touched, Touches}
+use Rattle.touch_laws.specs.Touches.{is_touched, Touches}
 use Rattle.state_laws.proofs.Domains.{get_set_other, get_set_same}
 use Rattle.live_domain.specs.Keyed.{has_notice}
 use Rattle.domains.specs.ById.{id_in, ring_in, ring_at, stands, is_noted}
 
 -- ---- what domains have
-
-eq_same : (a b : ℕ) → (a == b) ≡ true → a ≡ b
-eq_same a b h = grind (arith, nat_tests)
-
-eq_apart : (a b : ℕ) → (a == b) ≡ false → a ≢ b
-eq_apart a b h = grind (arith, nat_tests)
 
 pub live_other : (s : State) (d q : ℕ) (x : Domain) → d ≢ q → live_of (set_domain s d x) q ≡ live_of s q
 live_other s d q x apart = ap (option_and_then (λ (x : Domain). x.life)) (get_set_other d x q s apart)
@@ -115,16 +110,13 @@ module _ (s : State) (d : ℕ) (x : Domain) (live : Live) (here : domain_of s d 
   found_ring : (id : RingId) → (d == id.owner) ≡ true → ring_at s id ≡ own_ring live (key_in id)
   found_ring id is = ap (λ q. ring_in (live_of s q) (key_in id)) (sym (eq_same d id.owner is)) ∙ ap (λ l. ring_in l (key_in id)) (live_found s d x here ∙ lives)
 
-  self : (d == d) ≡ true
-  self = grind (arith, nat_tests)
-
   pub touches : (c : Change Live) (key : RingKey) (doms : List ℕ) → TouchesLive live (after live c) key doms → Touches s (change_in s d c).state (id_in d key) doms
   touches c key doms t =
       record {
         stands = λ y apart. ap is_some (ring_in_change s d x live c y here lives) ∙ stand y apart (d == y.owner) refl;
         notices = λ y q apart. ap (λ r. has_notice r q) (ring_in_change s d x live c y here lives) ∙ note y q apart (d == y.owner) refl;
         ended = λ q h. ap (λ r. has_notice r q) (ring_in_change s d x live c (id_in d key) here lives)
-            ∙ ap (λ b. has_notice (cond b (own_ring (after live c) key) (ring_at s (id_in d key))) q) self ∙ t.ended q h;
+            ∙ ap (λ b. has_notice (cond b (own_ring (after live c) key) (ring_at s (id_in d key))) q) (eq_self d) ∙ t.ended q h;
       } where
         stand : (y : RingId) → is_at (id_cmp (id_in d key)) y ≡ false → (b : Bool) → (d == y.owner) ≡ b
             → is_some (cond b (own_ring (after live c) (key_in y)) (ring_at s y)) ≡ stands s y

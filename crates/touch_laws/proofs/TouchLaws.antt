@@ -1,8 +1,9 @@
 -- Laws of acts that touch one ring of a domain: a sweep, and a registration.
-use Rattle.std.proofs.Common.{◌≡◌, ℕ, ◌<◌, Bool, true, false, ◌==◌, ◌&&◌, not, cond, IfSome, List, [], ◌∷◌, length, filter, nat_le, is_some, unwrap_or, if◌then◌else◌, Option, Some, None, option_map, refl, sym, ap, ◌∙◌, subst}
+use Rattle.std.proofs.Common.{◌≡◌, ℕ, ◌<◌, Bool, true, false, ◌&&◌, not, cond, IfSome, List, [], ◌∷◌, length, filter, nat_le, is_some, unwrap_or, if◌then◌else◌, Option, Some, None, option_map, refl, sym, ap, ◌∙◌, subst}
 use Rattle.std.specs.Map.{lookup, set_value}
 use Rattle.std.specs.BTreeMap.{is_at}
 use Rattle.std.proofs.lemmas.Bool.{false≢true}
+use Rattle.std.proofs.Math.Bool.{and-true}
 use Rattle.argo_base.specs.Match.{key_cmp, key_in, key_of, wildcard}
 use Rattle.argo_base.specs.Notices.{Notices, size_of, doms_of, never_fits, fits_now}
 use Rattle.argo_base.specs.declared.errno.Errno.{Errno}
@@ -20,13 +21,13 @@ use Rattle.argo_model.specs.Rules.Starts.{started}
 use Rattle.argo_model.specs.Rules.State.{State, Domain, Live, Ring, domain_of, life_in, is_alive, is_on}
 use Rattle.argo_model.specs.Rules.Sweep.{next_ring, sweep_found, sweep_ring}
 use Rattle.argo_model.specs.declared.action.Outcome.TheVariants.{Done}
-use Rattle.plain_world.specs.Touches.{Touches}
+use Rattle.touch_laws.specs.Touches.{Touches}
 use Rattle.live_domain.specs.declared.registration.Registration.{Registration}
 use Rattle.section_world.specs.Acts.{registers}
-use Rattle.plain_world.proofs.LeftLaws.{fit_of}
-use Rattle.plain_world.proofs.ActLaws.{acts_by, seen}
-use Rattle.plain_world.proofs.NoticeLaws.{kept_others, none_left, key_set_other, key_set_same, key_put_other, key_put_same}
-use Rattle.plain_world.proofs.RingLaws.{TouchesLive, touches_self, touches_same, touches, live_found}
+use Rattle.touch_laws.proofs.LeftLaws.{fit_of}
+use Rattle.touch_laws.proofs.ActLaws.{lives_in, acts_by, seen}
+use Rattle.touch_laws.proofs.NoticeLaws.{kept_others, none_left, key_set_other, key_set_same, key_put_other, key_put_same}
+use Rattle.touch_laws.proofs.RingLaws.{TouchesLive, touches_self, touches_same, touches, live_found}
 use Rattle.state_laws.specs.Each.{EachTwo}
 use Rattle.state_laws.specs.Valid.{IsLive, IsRing, IsValid}
 use Rattle.state_laws.proofs.Domains.{fit_found}
@@ -55,16 +56,12 @@ went_out out live key r p found rises is =
       notices = λ k q none. note k q (is_at (key_cmp key) k) refl none;
       ended = λ q h. ap (λ o. has_notice o q) (key_set_same key live.rings p.ring r found) ∙ ap (λ (ns : Notices). is_some (size_of ns q)) is ∙ none_left out r.notices q rises h;
     } where
-      and_true : (a : Bool) → (a && true) ≡ a
-      and_true true = refl
-      and_true false = refl
-
       note : (k : RingKey) (q : ℕ) (b : Bool) → is_at (key_cmp key) k ≡ b → (has_number (doms_of (filter out r.notices)) q && is_at (key_cmp key) k) ≡ false
           → has_notice (own_ring (set_paged live key p) k) q ≡ has_notice (own_ring live k) q
       note k q false apart none = ap (λ o. has_notice o q) (key_set_other key live.rings p.ring k apart)
       note k q true hit none =
           let same = key_same key k hit in
-          let n : has_number (doms_of (filter out r.notices)) q ≡ false = sym (and_true (has_number (doms_of (filter out r.notices)) q)) ∙ ap (λ b. has_number (doms_of (filter out r.notices)) q && b) (sym hit) ∙ none in
+          let n : has_number (doms_of (filter out r.notices)) q ≡ false = sym (and-true (has_number (doms_of (filter out r.notices)) q)) ∙ ap (λ b. has_number (doms_of (filter out r.notices)) q && b) (sym hit) ∙ none in
           ap (λ k. has_notice (own_ring (set_paged live key p) k) q) (sym same)
           ∙ ap (λ o. has_notice o q) (key_set_same key live.rings p.ring r found) ∙ ap (λ (ns : Notices). is_some (size_of ns q)) is ∙ kept_others out r.notices q n
           ∙ sym (ap (λ o. has_notice o q) found) ∙ ap (λ k. has_notice (own_ring live k) q) same
@@ -97,16 +94,10 @@ module _ (s : State) (d serial : ℕ) (v : IsValid s) (x : Domain) (live : Live)
 
 pub sweep_touches : (s : State) (d g serial : ℕ) → IsValid s → Touches s (act (Vcpu d g) (Sweep serial) s).state (id_in d (next_key s d serial)) (swept s d g serial)
 sweep_touches s d g serial v = there (domain_of s d) refl where
-  lives_in : (x : Domain) (live : Live) → life_in g x ≡ Some live → x.life ≡ Some live
-  lives_in x live h = by (x.generation == g) h where
-    by : (b : Bool) → (if b then x.life else None) ≡ Some live → x.life ≡ Some live
-    by true h = h
-    by false h = cc
-
   life : (x : Domain) → domain_of s d ≡ Some x → (l : Option Live) → life_in g x ≡ l
       → Touches s (act_if_live s d x l (Sweep serial)).state (id_in d (next_key s d serial)) (sweep_if_live x l serial).signals
   life x here None is = touches_same s (id_in d (next_key s d serial))
-  life x here (Some live) is = on s d serial v x live here (lives_in x live is) x.on
+  life x here (Some live) is = on s d serial v x live here (lives_in g x live is) x.on
 
   there : (o : Option Domain) → domain_of s d ≡ o → Touches s (act_if_there s d g o (Sweep serial)).state (id_in d (next_key s d serial)) (swept_of g serial o)
   there None here = touches_same s (id_in d (next_key s d serial))
@@ -205,16 +196,10 @@ module _ (s : State) (d : ℕ) (v : IsValid s) (x : Domain) (live : Live) (here 
 
 pub registers_touches : (s : State) (d g : ℕ) (r : Registration) → IsValid s → Touches s (act (Vcpu d g) (registers r) s).state (id_in d r.key) (registered s d g r)
 registers_touches s d g r v = there (domain_of s d) refl where
-  lives_in : (x : Domain) (live : Live) → life_in g x ≡ Some live → x.life ≡ Some live
-  lives_in x live h = by (x.generation == g) h where
-    by : (b : Bool) → (if b then x.life else None) ≡ Some live → x.life ≡ Some live
-    by true h = h
-    by false h = cc
-
   life : (x : Domain) → domain_of s d ≡ Some x → (l : Option Live) → life_in g x ≡ l
       → Touches s (act_if_live s d x l (registers r)).state (id_in d r.key) (registered_if_live s x l r)
   life x here None is = touches_same s (id_in d r.key)
-  life x here (Some live) is = change_touches s d v x live here (lives_in x live is) r
+  life x here (Some live) is = change_touches s d v x live here (lives_in g x live is) r
 
   there : (o : Option Domain) → domain_of s d ≡ o → Touches s (act_if_there s d g o (registers r)).state (id_in d r.key) (registered_if_there s g o r)
   there None here = touches_same s (id_in d r.key)

@@ -1,11 +1,12 @@
 -- Laws of what is left after a ring or a notice ended: valid states, as the lists see them, and nothing to forget in the end.
-use Rattle.std.proofs.Common.{◌≡◌, ◌≢◌, ℕ, ◌-◌, ◌<◌, Bool, true, false, ◌==◌, ◌&&◌, ◌||◌, IfSome, List, [], ◌∷◌, ◌++◌, length, is_some, Option, Some, None, option_map, option_and_then, cond, refl, sym, ap, ◌∙◌, subst, arith}
+use Rattle.std.proofs.Common.{◌≡◌, ℕ, ◌-◌, ◌<◌, Bool, true, false, ◌==◌, ◌&&◌, IfSome, List, [], ◌∷◌, ◌++◌, length, is_some, Option, Some, None, option_map, option_and_then, cond, refl, sym, ap, ◌∙◌, subst, arith}
 use Rattle.std.specs.Ordering.{nat_cmp}
 use Rattle.std.specs.Map.{lookup, set_value, remove_entry}
 use Rattle.std.specs.BTreeMap.{is_at}
 use Rattle.std.proofs.lemmas.Bool.{false≢true}
-use Rattle.std.proofs.lemmas.Bool.Decides.{nat_tests}
 use Rattle.std.proofs.lemmas.Map.Steps.{set_value_same}
+use Rattle.touch_laws.proofs.NumberLaws.{eq_same, eq_apart, eq_self}
+use Rattle.std.proofs.Math.Bool.{and-true, or-false}
 use Rattle.argo_base.specs.Match.{key_cmp, id_cmp, key_in}
 use Rattle.argo_base.specs.Notices.{withdrawn}
 use Rattle.argo_base.specs.declared.ring_key.RingId.{RingId}
@@ -16,11 +17,11 @@ use Rattle.argo_model.specs.Rules.Effects.{change_in, leaving, with_life}
 use Rattle.argo_model.specs.Rules.Register.{own_ring, without_ring, has_number}
 use Rattle.argo_model.specs.Rules.RingBytes.{ring_bytes}
 use Rattle.argo_model.specs.Rules.State.{State, Domain, Live, Ring, domain_of, set_domain, live_of, is_alive, change_found, change_domain, change_life}
-use Rattle.plain_world.specs.Touches.{is_touched}
-use Rattle.plain_world.proofs.ActLaws.{seen}
-use Rattle.plain_world.proofs.EndLaws.{removed_none}
-use Rattle.plain_world.proofs.NoticeLaws.{withdrawn_other, key_set_other, key_set_same, key_removed_other, none_apart}
-use Rattle.plain_world.proofs.RingLaws.{live_found, live_here, live_other, ring_in_change, id_here}
+use Rattle.touch_laws.specs.Touches.{is_touched}
+use Rattle.touch_laws.proofs.ActLaws.{seen}
+use Rattle.touch_laws.proofs.EndLaws.{removed_none}
+use Rattle.touch_laws.proofs.NoticeLaws.{withdrawn_other, key_set_other, key_set_same, key_removed_other, none_apart}
+use Rattle.touch_laws.proofs.RingLaws.{live_found, live_here, live_other, ring_in_change, id_here}
 use Rattle.state_laws.specs.Valid.{IsLive, IsRing, IsNotice, AreApart, KeepsUntaken, IsValid}
 use Rattle.state_laws.proofs.Domains.{kept_in, valid_kept, fit_found}
 use Rattle.state_laws.proofs.Lists.{each_put, two_put, each_weak}
@@ -58,9 +59,6 @@ fit_of s o x live v here lives = subst (λ (l : Option Live). IfSome l (IsLive (
 found_at : (s : State) (id : RingId) (x : Domain) (live : Live) → domain_of s id.owner ≡ Some x → x.life ≡ Some live → ring_at s id ≡ own_ring live (key_in id)
 found_at s id x live here lives = ap (λ l. ring_in l (key_in id)) (live_found s id.owner x here ∙ lives)
 
-self : (d : ℕ) → (d == d) ≡ true
-self d = grind (arith, nat_tests)
-
 -- ---- a ring ended
 
 module _ (s : State) (id : RingId) where
@@ -80,7 +78,7 @@ module _ (s : State) (id : RingId) where
   pub ended_here : IsValid s → ring_at (ring_ended s id) id ≡ None
   ended_here v = change_cases (λ t. ring_at t id ≡ None) s id.owner (end_key id) (λ none. ap (λ l. ring_in l (key_in id)) none)
       (λ x live here lives. ring_in_change s id.owner x live (leaving Done (end_key id live)) id here lives
-      ∙ ap (λ b. cond b (own_ring (without_ring live (key_in id)) (key_in id)) (ring_at s id)) (self id.owner)
+      ∙ ap (λ b. cond b (own_ring (without_ring live (key_in id)) (key_in id)) (ring_at s id)) (eq_self id.owner)
       ∙ gone_of live (fit_of s id.owner x live v here lives))
 
   live_end : (alive : ℕ → Bool) (live : Live) → IsLive alive live → IsLive alive (without_ring live (key_in id))
@@ -122,12 +120,6 @@ module _ (s : State) (id : RingId) where
   pub still_none : (d : ℕ) → rings_of s d ≡ [] → rings_of (ring_ended s id) d ≡ []
   still_none d none = change_cases (λ t. rings_of t d ≡ []) s id.owner (end_key id) (λ n. none)
       (λ x live here lives. by x live here lives (id.owner == d) refl) where
-        eq_same : (a b : ℕ) → (a == b) ≡ true → a ≡ b
-        eq_same a b h = grind (arith, nat_tests)
-
-        eq_apart : (a b : ℕ) → (a == b) ≡ false → a ≢ b
-        eq_apart a b h = grind (arith, nat_tests)
-
         by : (x : Domain) (live : Live) → domain_of s id.owner ≡ Some x → x.life ≡ Some live → (b : Bool) → (id.owner == d) ≡ b
             → rings_of (change_in s id.owner (leaving Done (end_key id live))).state d ≡ []
         by x live here lives true is =
@@ -166,21 +158,13 @@ module _ (s : State) (id : RingId) (d : ℕ) where
       (λ x live here lives. seen (λ r. has_notice r q) s id.owner x live (leaving Done (forget_key id d live)) y here lives
       (λ own. seen_other (λ r. has_notice r q) live (own_ring live (key_in id)) refl (key_in y)
       (λ hit r. ap is_some (withdrawn_other d r.notices q (other own hit))))) where
-        or_none : (a : Bool) → a ≡ (a || false)
-        or_none true = refl
-        or_none false = refl
-
-        and_true : (a : Bool) → a ≡ (a && true)
-        and_true true = refl
-        and_true false = refl
-
         other : (id.owner == y.owner) ≡ true → is_at (key_cmp (key_in id)) (key_in y) ≡ true → (d == q) ≡ false
-        other own hit = or_none (d == q) ∙ and_true (has_number (d ∷ []) q) ∙ ap (λ b. has_number (d ∷ []) q && b) (sym (id_here id.owner (key_in id) y own ∙ hit)) ∙ apart
+        other own hit = sym (or-false (d == q)) ∙ sym (and-true (has_number (d ∷ []) q)) ∙ ap (λ b. has_number (d ∷ []) q && b) (sym (id_here id.owner (key_in id) y own ∙ hit)) ∙ apart
 
   pub noted_here : IsValid s → is_noted (notice_ended s id d) id d ≡ false
   noted_here v = change_cases (λ t. is_noted t id d ≡ false) s id.owner (forget_key id d) (λ none. ap (λ l. has_notice (ring_in l (key_in id)) d) none)
       (λ x live here lives. ap (λ r. has_notice r d) (ring_in_change s id.owner x live (leaving Done (forget_key id d live)) id here lives)
-      ∙ ap (λ b. has_notice (cond b (own_ring (forget_key id d live) (key_in id)) (ring_at s id)) d) (self id.owner)
+      ∙ ap (λ b. has_notice (cond b (own_ring (forget_key id d live) (key_in id)) (ring_at s id)) d) (eq_self id.owner)
       ∙ by live (fit_of s id.owner x live v here lives) (own_ring live (key_in id)) refl) where
         by : (live : Live) → IsLive (is_alive s) live → (o : Option Ring) → own_ring live (key_in id) ≡ o → has_notice (own_ring (without_notice_of live (key_in id) d o) (key_in id)) d ≡ false
         by live fit None is = ap (λ r. has_notice r d) is
@@ -230,12 +214,6 @@ module _ (s : State) (id : RingId) (d : ℕ) where
   pub none_noted : (q : ℕ) → rings_of s q ≡ [] → rings_of (notice_ended s id d) q ≡ []
   none_noted q none = change_cases (λ t. rings_of t q ≡ []) s id.owner (forget_key id d) (λ n. none)
       (λ x live here lives. by x live here lives (id.owner == q) refl) where
-        eq_same : (a b : ℕ) → (a == b) ≡ true → a ≡ b
-        eq_same a b h = grind (arith, nat_tests)
-
-        eq_apart : (a b : ℕ) → (a == b) ≡ false → a ≢ b
-        eq_apart a b h = grind (arith, nat_tests)
-
         empty : (live : Live) → live.rings ≡ [] → (o : Option Ring) → (without_notice_of live (key_in id) d o).rings ≡ []
         empty live none None = none
         empty live none (Some r) = ap (λ (rs : List (RingKey × Ring)). set_value (is_at (key_cmp (key_in id))) rs (ring_without d r)) none

@@ -1,10 +1,11 @@
 -- Laws of acts, as the lists see them: which rings come and go, and whose notices.
-use Rattle.std.proofs.Common.{◌≡◌, ℕ, Bool, true, false, cond, ◌==◌, ◌&&◌, ◌||◌, not, IsTrue, IfSome, List, [], ◌∷◌, length, max, is_some, is_none, unwrap_or, if◌then◌else◌, Option, Some, None, option_map, refl, sym, ap, ◌∙◌, subst, arith}
+use Rattle.std.proofs.Common.{◌≡◌, ℕ, Bool, true, false, cond, ◌==◌, ◌&&◌, not, IsTrue, IfSome, List, [], ◌∷◌, length, max, is_some, is_none, unwrap_or, if◌then◌else◌, Option, Some, None, option_map, refl, sym, ap, ◌∙◌, subst}
 use Rattle.std.specs.Option.{option_or}
 use Rattle.std.specs.Map.{lookup}
 use Rattle.std.specs.BTreeMap.{is_at}
 use Rattle.std.proofs.lemmas.Bool.{false≢true}
-use Rattle.std.proofs.lemmas.Bool.Decides.{nat_tests}
+use Rattle.touch_laws.proofs.NumberLaws.{eq_same}
+use Rattle.std.proofs.Math.Bool.{and-true, or-false}
 use Rattle.argo_base.specs.Match.{key_cmp, id_cmp, key_in, key_of, match_of, wildcard}
 use Rattle.argo_base.specs.Notices.{Notices, is_busy, noted, withdrawn, size_of}
 use Rattle.argo_base.specs.Slots.{fits, is_too_big}
@@ -27,17 +28,14 @@ use Rattle.argo_model.specs.Rules.Query.{query_match, query_life, query_domain, 
 use Rattle.argo_model.specs.Rules.Register.{own_ring}
 use Rattle.argo_model.specs.Rules.RingBytes.{PagedRing, paged, set_paged, free}
 use Rattle.argo_model.specs.Rules.State.{State, Domain, Live, Ring, domain_of, set_domain, life_in, live_of, is_alive, change_found, has_page}
-use Rattle.plain_world.specs.Touches.{is_touched}
-use Rattle.plain_world.proofs.NoticeLaws.{noted_other, withdrawn_other, key_set_other, key_set_same, key_map}
-use Rattle.plain_world.proofs.RingLaws.{ring_in_change, ring_quiet, ring_set, live_found, id_here}
+use Rattle.touch_laws.specs.Touches.{is_touched, Same, Notes}
+use Rattle.touch_laws.proofs.NoticeLaws.{noted_other, withdrawn_other, key_set_other, key_set_same, key_map}
+use Rattle.touch_laws.proofs.RingLaws.{ring_in_change, ring_quiet, ring_set, live_found, id_here}
 use Rattle.state_laws.proofs.LiveActs.{same_put}
 use Rattle.state_laws.proofs.Lives.{key_same, matched}
 use Rattle.live_domain.specs.Keyed.{has_notice}
-use Rattle.domains.specs.ById.{id_in, ring_in, ring_at, stands, is_noted, met_id}
+use Rattle.domains.specs.ById.{id_in, ring_in, ring_at, stands, met_id}
 use Rattle.section_world.specs.Acts.{keeps_rings}
-
-eq_same : (a b : ℕ) → (a == b) ≡ true → a ≡ b
-eq_same a b h = grind (arith, nat_tests)
 
 -- what is seen of a ring stays where a domain's change keeps it
 pub seen : {A : Type 0} (f : Option Ring → A) (s : State) (d : ℕ) (x : Domain) (live : Live) (c : Change Live) (y : RingId) → domain_of s d ≡ Some x → x.life ≡ Some live
@@ -47,29 +45,26 @@ seen f s d x live c y here lives same = ap f (ring_in_change s d x live c y here
   by true is = same is ∙ sym (ap (λ q. f (ring_in (live_of s q) (key_in y))) (sym (eq_same d y.owner is)) ∙ ap (λ l. f (ring_in l (key_in y))) (live_found s d x here ∙ lives))
   by false is = refl
 
+-- who lives in a generation is alive
+pub lives_in : (g : ℕ) (x : Domain) (live : Live) → life_in g x ≡ Some live → x.life ≡ Some live
+lives_in g x live h = by (x.generation == g) h where
+  by : (b : Bool) → (if b then x.life else None) ≡ Some live → x.life ≡ Some live
+  by true h = h
+  by false h = cc
+
 -- an act of a domain that lives, or nothing
 pub acts_by : (P : State → Type 0) (s : State) (d g : ℕ) (a : Action) → P s → ((x : Domain) (live : Live) → domain_of s d ≡ Some x → x.life ≡ Some live → P (act_of s d x live a).state)
     → P (act (Vcpu d g) a s).state
 acts_by P s d g a none acts = there (domain_of s d) refl where
-  lives_in : (x : Domain) (live : Live) → life_in g x ≡ Some live → x.life ≡ Some live
-  lives_in x live h = by (x.generation == g) h where
-    by : (b : Bool) → (if b then x.life else None) ≡ Some live → x.life ≡ Some live
-    by true h = h
-    by false h = cc
-
   life : (x : Domain) → domain_of s d ≡ Some x → (l : Option Live) → life_in g x ≡ l → P (act_if_live s d x l a).state
   life x here None is = none
-  life x here (Some live) is = acts x live here (lives_in x live is)
+  life x here (Some live) is = acts x live here (lives_in g x live is)
 
   there : (o : Option Domain) → domain_of s d ≡ o → P (act_if_there s d g o a).state
   there None here = none
   there (Some x) here = life x here (life_in g x) refl
 
 -- ---- acts that leave all as it is
-
-pub record Same (s t : State) : Type 0 where
-  pub stands : (x : RingId) → stands t x ≡ stands s x
-  pub notices : (x : RingId) (d : ℕ) → is_noted t x d ≡ is_noted s x d
 
 pub same_self : (s : State) → Same s s
 same_self s = record { stands = λ x. refl; notices = λ x d. refl }
@@ -146,10 +141,6 @@ create_same s d = by (domain_of s d) refl where
 
 -- ---- acts after which one domain may wait on one ring, or not
 
-pub record Notes (s t : State) (id : RingId) (dom : ℕ) : Type 0 where
-  pub stands : (x : RingId) → stands t x ≡ stands s x
-  pub notices : (x : RingId) (d : ℕ) → is_touched id (dom ∷ []) x d ≡ false → is_noted t x d ≡ is_noted s x d
-
 pub notes_self : (s : State) (id : RingId) (dom : ℕ) → Notes s s id dom
 notes_self s id dom = record { stands = λ x. refl; notices = λ x d h. refl }
 
@@ -186,22 +177,16 @@ module _ (s : State) (to : ℕ) (dom : ℕ) (id : RingId) where
           stand k false apart = ap is_some (key_set_other key other.rings p.ring k apart)
 
           away : (z : RingId) (q : ℕ) → (to == z.owner) ≡ true → is_touched id (dom ∷ []) z q ≡ false → ((dom == q) && is_at (key_cmp key) (key_in z)) ≡ false
-          away z q own h = ap (λ b. (dom == q) && b) (sym (ap (λ i. is_at (id_cmp i) z) is ∙ id_here to key z own)) ∙ ap (λ b. b && is_at (id_cmp id) z) (sym (or_none (dom == q))) ∙ h where
-            or_none : (a : Bool) → (a || false) ≡ a
-            or_none true = refl
-            or_none false = refl
+          away z q own h = ap (λ b. (dom == q) && b) (sym (ap (λ i. is_at (id_cmp i) z) is ∙ id_here to key z own)) ∙ ap (λ b. b && is_at (id_cmp id) z) (sym (or-false (dom == q))) ∙ h
 
           note : (z : RingId) (q : ℕ) (b : Bool) → is_at (key_cmp key) (key_in z) ≡ b → ((dom == q) && is_at (key_cmp key) (key_in z)) ≡ false
               → has_notice (own_ring (set_paged other key p) (key_in z)) q ≡ has_notice (own_ring other (key_in z)) q
           note z q false apart h = ap (λ r. has_notice r q) (key_set_other key other.rings p.ring (key_in z) apart)
           note z q true hit h =
               let same = key_same key (key_in z) hit in
-              let n : (dom == q) ≡ false = sym (and_true (dom == q)) ∙ ap (λ b. (dom == q) && b) (sym hit) ∙ h in
+              let n : (dom == q) ≡ false = sym (and-true (dom == q)) ∙ ap (λ b. (dom == q) && b) (sym hit) ∙ h in
               ap (λ k. has_notice (own_ring (set_paged other key p) k) q) (sym same) ∙ ap (λ r. has_notice r q) (key_set_same key other.rings p.ring r found)
-              ∙ ap is_some (notes q n) ∙ ap (λ r. has_notice r q) (sym found) ∙ ap (λ k. has_notice (own_ring other k) q) same where
-                and_true : (a : Bool) → (a && true) ≡ a
-                and_true true = refl
-                and_true false = refl
+              ∙ ap is_some (notes q n) ∙ ap (λ r. has_notice r q) (sym found) ∙ ap (λ k. has_notice (own_ring other k) q) same
 
 -- the ring that is met has the id that was said
 met_is : (s : State) (to port sender : ℕ) (y : Domain) (other : Live) (e : RingKey × Ring) → domain_of s to ≡ Some y → y.life ≡ Some other → match_of other.rings port sender ≡ Some e

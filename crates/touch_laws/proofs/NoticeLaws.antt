@@ -6,6 +6,7 @@ use Rattle.std.specs.Ordering.{nat_cmp, match_ordering, is_eq}
 use Rattle.std.specs.Map.{lookup, set_value, remove_entry}
 use Rattle.std.specs.BTreeMap.{is_at, insert_entry}
 use Rattle.std.proofs.lemmas.Bool.Decides.{nat_tests}
+use Rattle.touch_laws.proofs.NumberLaws.{eq_same}
 use Rattle.argo_base.specs.Match.{key_cmp}
 use Rattle.argo_base.specs.Notices.{Notices, size_of, doms_of}
 use Rattle.argo_base.specs.declared.ring_key.RingKey.{RingKey}
@@ -84,13 +85,10 @@ module _ (out : ℕ × ℕ → Bool) where
 among : (P : ℕ → Type 0) (out : ℕ × ℕ → Bool) (ns : Notices) (d : ℕ) → Each (λ (n : ℕ × ℕ). P n.0) ns → has_number (doms_of (filter out ns)) d ≡ true → P d
 among P out [] d all h = cc
 among P out (e ∷ es) d all h = by (out e) h (among P out es d all.1) where
-  number : (a b : ℕ) → (a == b) ≡ true → a ≡ b
-  number a b h = grind (arith, nat_tests)
-
   by : (b : Bool) → has_number (doms_of (cond b (e ∷ filter out es) (filter out es))) d ≡ true → (has_number (doms_of (filter out es)) d ≡ true → P d) → P d
   by true h rest = at (e.0 == d) refl h where
     at : (b : Bool) → (e.0 == d) ≡ b → (b || has_number (doms_of (filter out es)) d) ≡ true → P d
-    at true is h = subst P (number e.0 d is) all.0
+    at true is h = subst P (eq_same e.0 d is) all.0
     at false is h = rest h
   by false h rest = rest h
 
@@ -99,9 +97,6 @@ pub none_left : (out : ℕ × ℕ → Bool) (ns : Notices) (d : ℕ) → EachTwo
     → is_some (size_of (filter (λ n. not (out n)) ns) d) ≡ false
 none_left out [] d rising h = cc
 none_left out (e ∷ es) d rising h = by (out e) h (none_left out es d rising.1) where
-  number : (a b : ℕ) → (a == b) ≡ true → a ≡ b
-  number a b h = grind (arith, nat_tests)
-
   later : (a b : ℕ) → a < b → is_at (nat_cmp b) a ≡ false
   later a b h = grind (arith, nat_tests)
 
@@ -112,7 +107,7 @@ none_left out (e ∷ es) d rising h = by (out e) h (none_left out es d rising.1)
     at : (b : Bool) → (e.0 == d) ≡ b → (b || has_number (doms_of (filter out es)) d) ≡ true → is_some (size_of (filter (λ n. not (out n)) es) d) ≡ false
     at true is h =
         ap is_some (absent d (filter (λ n. not (out n)) es)
-        (each_filter (λ (f : ℕ × ℕ). d ≢ f.0) (λ n. not (out n)) es (each_weak (λ (f : ℕ × ℕ). e.0 < f.0) (λ (f : ℕ × ℕ). d ≢ f.0) (λ f l same. before (number e.0 d is) same l) es rising.0))) where
+        (each_filter (λ (f : ℕ × ℕ). d ≢ f.0) (λ n. not (out n)) es (each_weak (λ (f : ℕ × ℕ). e.0 < f.0) (λ (f : ℕ × ℕ). d ≢ f.0) (λ f l same. before (eq_same e.0 d is) same l) es rising.0))) where
           before : {a b c : ℕ} → a ≡ b → b ≡ c → a < c → ⊥
           before s t l = omega arith
     at false is h = rest h
