@@ -13,7 +13,6 @@ mod tests;
 mod visits;
 
 pub use listed_domains::ListedDomains;
-
 use paged_live::Live;
 use section_world::SectionWorld;
 
