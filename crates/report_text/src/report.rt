@@ -203,7 +203,8 @@ fn write_rows<K: Sink>(
     requires order { from < to }
     requires few { to ≤ from + BLOCK_ROWS }
     requires inside { to ≤ div_ceil (length slots.now) 32 }
-    ensures { Wrote K.written K.faults out.old out.new (rows_text slots.now from (to - from)) result }
+    ensures { Wrote K.written K.faults out.old out.new
+        (rows_text slots.now from (to - from)) result }
 {
     if is_blank(rows_at(slots, ROW_BYTES * from, ROW_BYTES * (to - from))) {
         return Ok(());

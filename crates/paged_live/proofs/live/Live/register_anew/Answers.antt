@@ -24,33 +24,29 @@ pub returns-in_default-clause-outcome : goal.returns-in_default-clause-outcome
 returns-in_default-clause-outcome c =
     let i = c.self.inside in
     let x : Parts = record { private = i.private; homes = i.homes.items; flag = i.flag; next_serial = i.next_serial; rows = i.rings } in
-    let key = c.args.key.now in
-    absurd (never x key (no_value x.rows key (sym c.find_exact_mut.ensures.value ∙ ap option_copied_mut c.in_default.is)) (ap (λ (l : Live). has_ring l key) c.self.view_is ∙ c.requires.stands))
+    absurd (never x c.args.key.now (no_value x.rows c.args.key.now (sym c.find_exact_mut.ensures.value ∙ ap option_copied_mut c.in_default.is)) (ap (λ (l : Live). has_ring l c.args.key.now) c.self.view_is ∙ c.requires.stands))
 
 pub returns-in_default-clause-signals : goal.returns-in_default-clause-signals
 returns-in_default-clause-signals c =
     let i = c.self.inside in
     let x : Parts = record { private = i.private; homes = i.homes.items; flag = i.flag; next_serial = i.next_serial; rows = i.rings } in
-    let key = c.args.key.now in
-    absurd (never x key (no_value x.rows key (sym c.find_exact_mut.ensures.value ∙ ap option_copied_mut c.in_default.is)) (ap (λ (l : Live). has_ring l key) c.self.view_is ∙ c.requires.stands))
+    absurd (never x c.args.key.now (no_value x.rows c.args.key.now (sym c.find_exact_mut.ensures.value ∙ ap option_copied_mut c.in_default.is)) (ap (λ (l : Live). has_ring l c.args.key.now) c.self.view_is ∙ c.requires.stands))
 
 pub returns-in_default-clause-left : goal.returns-in_default-clause-left
 returns-in_default-clause-left c =
     let i = c.self.inside in
     let x : Parts = record { private = i.private; homes = i.homes.items; flag = i.flag; next_serial = i.next_serial; rows = i.rings } in
-    let key = c.args.key.now in
-    absurd (never x key (no_value x.rows key (sym c.find_exact_mut.ensures.value ∙ ap option_copied_mut c.in_default.is)) (ap (λ (l : Live). has_ring l key) c.self.view_is ∙ c.requires.stands))
+    absurd (never x c.args.key.now (no_value x.rows c.args.key.now (sym c.find_exact_mut.ensures.value ∙ ap option_copied_mut c.in_default.is)) (ap (λ (l : Live). has_ring l c.args.key.now) c.self.view_is ∙ c.requires.stands))
 
 pub invariant_of-self-then-stands_so : goal.invariant_of-self-then-stands_so
 invariant_of-self-then-stands_so c =
     let i = c.self.inside in
     let x : Parts = record { private = i.private; homes = i.homes.items; flag = i.flag; next_serial = i.next_serial; rows = i.rings } in
-    let key = c.args.key.now in
     let a = c.in-Some.ring.now in
-    let f = found_value x.rows key a (sym c.find_exact_mut.ensures.value ∙ ap option_copied_mut c.in-Some.is) in
+    let f = found_value x.rows c.args.key.now a (sym c.find_exact_mut.ensures.value ∙ ap option_copied_mut c.in-Some.is) in
     let whole = subst AreWhole c.row.ensures c.count.ensures.whole in
     let still : StandsStill a a = record { id = refl; pages = refl; sized = length-row_bytes a.row whole } in
-    changed_parts x c.self.invariant key a a f still
+    changed_parts x c.self.invariant c.args.key.now a a f still
 
 pub returns-then-stands_so-clause-outcome : goal.returns-then-stands_so-clause-outcome
 returns-then-stands_so-clause-outcome c =
@@ -99,23 +95,21 @@ pub invariant_of-self-in_err-signals : goal.invariant_of-self-in_err-signals
 invariant_of-self-in_err-signals c =
     let i = c.self.inside in
     let x : Parts = record { private = i.private; homes = i.homes.items; flag = i.flag; next_serial = i.next_serial; rows = i.rings } in
-    let key = c.args.key.now in
     let a = c.in-Some.ring.now in
-    let f = found_value x.rows key a (sym c.find_exact_mut.ensures.value ∙ ap option_copied_mut c.in-Some.is) in
+    let f = found_value x.rows c.args.key.now a (sym c.find_exact_mut.ensures.value ∙ ap option_copied_mut c.in-Some.is) in
     let whole = subst AreWhole c.row.ensures c.count.ensures.whole in
     let still : StandsStill a a = record { id = refl; pages = refl; sized = length-row_bytes a.row whole } in
-    changed_parts x c.self.invariant key a a f still
+    changed_parts x c.self.invariant c.args.key.now a a f still
 
 pub returns-in_err-signals-clause-err : goal.returns-in_err-signals-clause-err
 returns-in_err-signals-clause-err c =
     let i = c.self.inside in
     let x : Parts = record { private = i.private; homes = i.homes.items; flag = i.flag; next_serial = i.next_serial; rows = i.rings } in
-    let key = c.args.key.now in
     let a = c.in-Some.ring.now in
-    let f = found_value x.rows key a (sym c.find_exact_mut.ensures.value ∙ ap option_copied_mut c.in-Some.is) in
+    let f = found_value x.rows c.args.key.now a (sym c.find_exact_mut.ensures.value ∙ ap option_copied_mut c.in-Some.is) in
     let whole = subst AreWhole c.row.ensures c.count.ensures.whole in
     let still : StandsStill a a = record { id = refl; pages = refl; sized = length-row_bytes a.row whole } in
-    in_any_case c.from_residual.result (unchanged_seen x c.self.invariant key a a f still (λ serial. refl) ∙ c.self.view_is)
+    in_any_case c.from_residual.result (unchanged_seen x c.self.invariant c.args.key.now a a f still (λ serial. refl) ∙ c.self.view_is)
 
 pub list-requires-clause-room : goal.list-requires-clause-room
 list-requires-clause-room c =
@@ -291,17 +285,16 @@ pub returns-clause-err : goal.returns-clause-err
 returns-clause-err c =
     let i = c.self.inside in
     let x : Parts = record { private = i.private; homes = i.homes.items; flag = i.flag; next_serial = i.next_serial; rows = i.rings } in
-    let key = c.args.key.now in
     let a = c.in-Some.ring.now in
-    let f = found_value x.rows key a (sym c.find_exact_mut.ensures.value ∙ ap option_copied_mut c.in-Some.is) in
+    let f = found_value x.rows c.args.key.now a (sym c.find_exact_mut.ensures.value ∙ ap option_copied_mut c.in-Some.is) in
     let b = c.restart.new.ring in
     let err = c.in-Err.ensures.err in
     let same_row = c.row-in-Err.ensures ∙ ap (λ (h : Held). h.row) err in
     let homes =
-    settled_back x key a.row c.row-2.result.now (numbers_of a.row) i.homes.len c.as_mut_slice.result.now c.clear.new.homes c.as_mut_slice-in-Err.result.now c.settle_row.new.homes
+    settled_back x c.args.key.now a.row c.row-2.result.now (numbers_of a.row) i.homes.len c.as_mut_slice.result.now c.clear.new.homes c.as_mut_slice-in-Err.result.now c.settle_row.new.homes
     (sym i.homes.ok.0) c.row-2.ensures c.as_mut_slice.ensures.value c.clear.ensures c.as_mut_slice-in-Err.ensures.value
-    (c.settle_row.ensures ∙ ap (λ row. settled key 0 (numbers_of row) c.as_mut_slice-in-Err.result.now) same_row)
-    ∙ resettled x c.self.invariant key a f in
-    let same = kept_is x key b c.in-Err.ensures.err_private homes in
+    (c.settle_row.ensures ∙ ap (λ row. settled c.args.key.now 0 (numbers_of row) c.as_mut_slice-in-Err.result.now) same_row)
+    ∙ resettled x c.self.invariant c.args.key.now a f in
+    let same = kept_is x c.args.key.now b c.in-Err.ensures.err_private homes in
     let still : StandsStill a b = record { id = c.in-Err.ensures.id; pages = ap (λ (h : Held). numbers_of h.row) err; sized = c.in-Err.ensures.sized } in
-    ap seen same ∙ unchanged_seen x c.self.invariant key a b f still (λ serial. ap (paged serial) err) ∙ c.self.view_is
+    ap seen same ∙ unchanged_seen x c.self.invariant c.args.key.now a b f still (λ serial. ap (paged serial) err) ∙ c.self.view_is
