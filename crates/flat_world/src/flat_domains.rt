@@ -1,4 +1,4 @@
-//! The domains of the plain world: what another keeps for a domain that ends is found by a walk over all.
+//! The domains of the flat world: what another keeps for a domain that ends is found by a walk over all.
 
 use argo_base::{DomId, Errno, NoMemory, RingKey};
 use argo_model::{Action, ClosedDomains, DomainLine, FinalDomains, Outcome};
@@ -9,7 +9,7 @@ use section_world::{DomainActs, SectionWorld};
 use std::alloc::Global;
 use std::marker::Model;
 
-/// The domains of the plain world. Contracts see the abstract state.
+/// The domains of the flat world. Contracts see the abstract state.
 #[derive(Drop)]
 pub struct FlatDomains {
     domains: Domains<Live>,
@@ -23,7 +23,7 @@ impl Model for FlatDomains {
     ghost view = { λ x. x.domains };
 }
 
-/// The plain world of a script: a `SectionWorld` over domains with flat memories.
+/// The flat world of a script: a `SectionWorld` over domains with flat memories.
 pub type FlatWorld = SectionWorld<FlatDomains>;
 
 impl DomainActs for FlatDomains {

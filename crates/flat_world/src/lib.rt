@@ -1,4 +1,4 @@
-//! The plain world: domains with flat memories, in which the sections of a script perform their actions.
+//! The flat world: domains with flat memories, in which the sections of a script perform their actions.
 //!
 //! The layer above uses `FlatWorld`, a `SerialWorld`: it tells its state, and each action is the rule's. It stands on flat_live, domains
 //! and section_world.
