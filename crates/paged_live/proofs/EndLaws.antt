@@ -24,7 +24,7 @@ use Rattle.ring_table.specs.Edits.{without_row}
 use Rattle.ring_table.proofs.BucketLaws.{key_total, key_itself}
 use Rattle.ring_table.proofs.EntryLaws.{sorted-remove, remove-absent}
 use Rattle.paged_live.specs.declared.home.Home.{Home}
-use Rattle.paged_live.specs.Ends.{take_away}
+use Rattle.live_domain.specs.Own.{take_away}
 use Rattle.paged_live.specs.Homes.{cleared}
 use Rattle.paged_live.specs.Parts.{Rows, Parts, stood, store_of, ring_of, rings_of, seen, IsParts}
 use Rattle.paged_live.proofs.PageLaws.{Differ}

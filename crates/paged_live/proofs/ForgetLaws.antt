@@ -26,7 +26,7 @@ use Rattle.ring_table.specs.Edits.{with_value}
 use Rattle.ring_table.specs.Serials.{NoneAbove, IsNext}
 use Rattle.ring_table.proofs.BucketLaws.{key_total, key_is}
 use Rattle.ring_table.proofs.EntryLaws.{remove-absent}
-use Rattle.paged_live.specs.Ends.{without_notice, without_notice_at}
+use Rattle.live_domain.specs.Keyed.{without_notice, without_notice_of}
 use Rattle.paged_live.specs.Forgets.{IsForgotten, Forgot, IsAbove, NoneIsAbove, AllForgotten}
 use Rattle.paged_live.specs.Parts.{Parts, ring_of, seen, IsParts}
 use Rattle.paged_live.proofs.PartsLaws.{Found, with_ring, value_here}
@@ -89,10 +89,10 @@ ring_ended d key live rising at =
     }
 
 pub notice_ended : (d : ℕ) (key : RingKey) (live : Live) → (key.partner == d) ≡ false
-    → ((r : Ring) → own_ring (without_notice d key live) key ≡ Some r → withdrawn r.notices d ≡ r.notices) → Forgot d key live (without_notice d key live)
+    → ((r : Ring) → own_ring (without_notice live key d) key ≡ Some r → withdrawn r.notices d ≡ r.notices) → Forgot d key live (without_notice live key d)
 notice_ended d key live apart gone = by (own_ring live key) refl gone where
-  by : (o : Option Ring) → own_ring live key ≡ o → ((r : Ring) → own_ring (without_notice_at d key live o) key ≡ Some r → withdrawn r.notices d ≡ r.notices)
-      → Forgot d key live (without_notice_at d key live o)
+  by : (o : Option Ring) → own_ring live key ≡ o → ((r : Ring) → own_ring (without_notice_of live key d o) key ≡ Some r → withdrawn r.notices d ≡ r.notices)
+      → Forgot d key live (without_notice_of live key d o)
   by None found gone =
       record { same = refl; next_serial = refl; done = λ r is. absurd (none-some r (sym found ∙ is)); others = λ q other. refl }
   by (Some r) found gone =

@@ -8,6 +8,8 @@ pub mod FreshLaws
 pub mod ActLaws
 pub mod SweepLaws
 pub mod HomeLaws
+pub mod ClosedLaws
+pub mod KeyedLaws
 pub mod EndLaws
 pub mod JoinLaws
 pub mod FreeLaws

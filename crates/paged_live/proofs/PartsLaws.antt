@@ -1,8 +1,8 @@
 -- Laws of a domain of which one ring changes on its pages.
-use Rattle.std.proofs.Common.{◌≡◌, ◌≢◌, ℕ, ◌*◌, List, Option, Some, None, option_map, unwrap_or, Result, Ok, Err, OnErr, ⊎_elim, refl, sym, ap, ◌∙◌, subst}
+use Rattle.std.proofs.Common.{◌≡◌, ◌≢◌, ℕ, ◌*◌, true, false, List, Option, Some, None, option_map, unwrap_or, Result, Ok, Err, OnErr, ⊎_elim, refl, sym, ap, ◌∙◌, subst}
 use Rattle.std.specs.List.Sorted.{IsStrictlySortedBy}
 use Rattle.std.specs.Map.{lookup, keys_of, set_value}
-use Rattle.std.specs.Option.{option_or}
+use Rattle.std.specs.Option.{is_some, option_or}
 use Rattle.std.specs.BTreeMap.{is_at}
 use Rattle.std.proofs.lemmas.List.{length-map}
 use Rattle.std.proofs.lemmas.Option.{same_Some}
@@ -181,56 +181,38 @@ match_seen rows port sender =
       by None w = refl
       by (Some e) w = refl
 
-at_key_found : (rows : Rows) (key : RingKey) (e : RingKey × Row Held) → at_key rows key ≡ Some e → held_at rows e.0 ≡ Some e.1
-at_key_found rows key e is = by (held_at rows key) refl is where
-  by : (o : Option (Row Held)) → held_at rows key ≡ o → option_map (λ (h : Row Held). (key, h)) o ≡ Some e → held_at rows e.0 ≡ Some e.1
-  by None found is = cc
-  by (Some h) found is =
-      let e_is : (key, h) ≡ e = same_Some (key, h) e is in
-      subst (λ (p : RingKey × Row Held). held_at rows p.0 ≡ Some p.1) e_is found
-
--- it stands under its key
-pub match_found : (rows : Rows) (port sender : ℕ) (e : RingKey × Row Held) → match_of rows port sender ≡ Some e → held_at rows e.0 ≡ Some e.1
-match_found rows port sender e is = by (at_key rows (key_of port sender)) refl is where
-  by : (o : Option (RingKey × Row Held)) → at_key rows (key_of port sender) ≡ o → option_or o (at_key rows (key_of port wildcard)) ≡ Some e → held_at rows e.0 ≡ Some e.1
-  by None at is = at_key_found rows (key_of port wildcard) e is
-  by (Some d) at is = at_key_found rows (key_of port sender) e (at ∙ is)
-
--- the key of the match, and the ring that stands there
-pub record Met (rows : Rows) (port sender : ℕ) (key : RingKey) : Type 0 where
-  pub row : Row Held
-  pub is : held_at rows key ≡ Some row
-  pub met : match_of rows port sender ≡ Some (key, row)
-
-pub met_at : (rows : Rows) (port sender : ℕ) (key : RingKey) → option_map (λ e. e.0) (match_of rows port sender) ≡ Some key → Met rows port sender key
-met_at rows port sender key at = by (match_of rows port sender) refl at where
-  by : (o : Option (RingKey × Row Held)) → match_of rows port sender ≡ o → option_map (λ (e : RingKey × Row Held). e.0) o ≡ Some key → Met rows port sender key
-  by None is at = cc
-  by (Some e) is at =
-      let same : e.0 ≡ key = same_Some e.0 key at in
-      subst (Met rows port sender) same (record { row = e.1; is = match_found rows port sender e is; met = is })
-
--- so the rules meet it too
-pub match_is : (rows : Rows) (port sender : ℕ) (key : RingKey) (v : Held) (f : Found rows key v) → option_map (λ e. e.0) (match_of rows port sender) ≡ Some key
+-- a key of the table whose row is the match: the rules meet it too
+pub match_is : (rows : Rows) (port sender : ℕ) (key : RingKey) (v : Held) (f : Found rows key v) → at_key rows key ≡ match_of rows port sender
     → match_of (rings_of rows) port sender ≡ Some (key, (paged f.serial v).ring)
-match_is rows port sender key v f at =
-    let m = met_at rows port sender key at in
-    let same : m.row ≡ held f.serial v = same_Some m.row (held f.serial v) (sym m.is ∙ f.is) in
-    match_seen rows port sender ∙ ap (option_map seen_entry) m.met ∙ ap (λ h. Some (key, ring_of h)) same
+match_is rows port sender key v f same =
+    match_seen rows port sender ∙ ap (option_map seen_entry) (sym same) ∙ ap (λ o. option_map seen_entry (option_map (λ (h : Row Held). (key, h)) o)) f.is
 
-pub match_none : (rows : Rows) (port sender : ℕ) → option_map (λ e. e.0) (match_of rows port sender) ≡ None → match_of (rings_of rows) port sender ≡ None
-match_none rows port sender none = match_seen rows port sender ∙ by (match_of rows port sender) none where
-  by : (o : Option (RingKey × Row Held)) → option_map (λ (e : RingKey × Row Held). e.0) o ≡ None → option_map seen_entry o ≡ None
+pub match_none : (rows : Rows) (port sender : ℕ) (key : RingKey) → at_key rows key ≡ match_of rows port sender → value_at rows key ≡ None
+    → match_of (rings_of rows) port sender ≡ None
+match_none rows port sender key same none = match_seen rows port sender ∙ ap (option_map seen_entry) (sym same) ∙ by (held_at rows key) none where
+  by : (o : Option (Row Held)) → option_map (λ (h : Row Held). h.value) o ≡ None → option_map seen_entry (option_map (λ (h : Row Held). (key, h)) o) ≡ None
   by None none = refl
-  by (Some e) none = cc
+  by (Some h) none = cc
+
+-- the ring of the sender alone, or else the wildcard's
+pub met_exact : (rows : Rows) (port sender : ℕ) → is_some (option_map row_of (at_key rows (key_of port sender))) ≡ true
+    → at_key rows (key_of port sender) ≡ match_of rows port sender
+met_exact rows port sender there = by (at_key rows (key_of port sender)) there where
+  by : (o : Option (RingKey × Row Held)) → is_some (option_map row_of o) ≡ true → o ≡ option_or o (at_key rows (key_of port wildcard))
+  by None there = cc
+  by (Some e) there = refl
+
+pub met_any : (rows : Rows) (port sender : ℕ) → is_some (option_map row_of (at_key rows (key_of port sender))) ≡ false
+    → at_key rows (key_of port wildcard) ≡ match_of rows port sender
+met_any rows port sender gone = by (at_key rows (key_of port sender)) gone where
+  by : (o : Option (RingKey × Row Held)) → is_some (option_map row_of o) ≡ false → at_key rows (key_of port wildcard) ≡ option_or o (at_key rows (key_of port wildcard))
+  by None gone = refl
+  by (Some e) gone = cc
 
 -- what holds in any case holds after an error
 pub in_any_case : {T E P : Type 0} (r : Result T E) → P → OnErr r P
 in_any_case (Ok x) p = tt
 in_any_case (Err e) p = p
-
-abbrev pub key_in_row : RingKey × Row Held → RingKey
-key_in_row e = e.0
 
 -- a row that is found
 pub found_row : (rows : Rows) (key : RingKey) (row : TableRow Held) → option_map row_of (at_key rows key) ≡ Some row → Found rows key row.value

@@ -1,11 +1,12 @@
 //! Rings that end, and their pages, which come back.
 ghost use Rattle.std.specs.Prelude.{◌≡◌, Some, slice_get, option_map};
 ghost use Rattle.argo_base.specs.Notices.{withdrawn};
-ghost use Rattle.argo_model.specs.Rules.Destroy.{live_without, reset_live, ring_without};
 ghost use Rattle.argo_model.specs.Rules.Effects as effects;
 ghost use Rattle.argo_model.specs.Rules.Register.{has_ring, own_ring, without_ring};
 ghost use Rattle.argo_model.specs.Rules.State.{Ring as TheRing};
-ghost use Rattle.paged_live.specs.Ends as ends;
+ghost use Rattle.live_domain.specs.Keyed.{without_notice};
+ghost use Rattle.live_domain.specs.Own.{take_away};
+ghost use Rattle.paged_live.specs.Ends.{forgotten};
 ghost use Rattle.paged_live.specs.Parts.{StandsStill};
 ghost use Rattle.ring_core.specs.Held.{Becomes};
 
@@ -14,40 +15,22 @@ use crate::live::Live;
 use argo_base::{DomId, Errno, RingKey};
 use argo_model::Outcome;
 use ring_core::Ring;
-use std::alloc::Global;
 
 impl Live {
-    /// Whether a ring stands under the key.
-    pub fn has_ring(&self, key: RingKey) -> bool
-        ensures { result ≡ has_ring self.now key }
-    {
-        self.rings.find_exact(key).is_some()
-    }
-
-    /// The key of a ring, where one stands.
-    pub fn first_ring(&self) -> Option<RingKey>
+    /// The least key of the rings, where one stands.
+    pub(crate) fn lowest_key(&self) -> Option<RingKey>
         ensures { result ≡ option_map (λ e. e.0) (slice_get self.now.rings 0) }
     {
         let row = self.rings.first()?;
         Some(row.key)
     }
 
-    /// The domains that wait for room in the ring under the key, each with the size that it waits for.
-    pub fn noted(&self, key: RingKey) -> &[(DomId, u32)]
-        ensures { result.now ≡ ends.noted self.now key }
-    {
-        let Some(row) = self.rings.find_exact(key) else {
-            return &[];
-        };
-        row.value.notices().as_slice()
-    }
-
     /// Takes a ring away.
-    pub fn unregister(&mut self, key: RingKey) -> Outcome
-        ensures outcome { result ≡ (ends.take_away self.old key).outcome }
-        ensures left { self.new ≡ effects.after self.old (ends.take_away self.old key) }
+    pub(crate) fn unregister(&mut self, key: RingKey) -> Outcome
+        ensures outcome { result ≡ (take_away self.old key).outcome }
+        ensures left { self.new ≡ effects.after self.old (take_away self.old key) }
     {
-        if self.end_ring(key) {
+        if self.take_ring(key) {
             Outcome::Done
         } else {
             Outcome::Refused(Errno::NoEnt)
@@ -55,7 +38,7 @@ impl Live {
     }
 
     /// Ends the ring under the key: its pages come back. It tells whether there was one.
-    pub fn end_ring(&mut self, key: RingKey) -> bool
+    pub(crate) fn take_ring(&mut self, key: RingKey) -> bool
         ensures stood { result ≡ has_ring self.old key }
         ensures left { self.new ≡ without_ring self.old key }
     {
@@ -70,8 +53,8 @@ impl Live {
     }
 
     /// Ends the notice of a domain on the ring under the key, where there is one.
-    pub fn forget_notice(&mut self, key: RingKey, dom: DomId)
-        ensures left { self.new ≡ ends.without_notice dom key self.old }
+    pub(crate) fn end_notice(&mut self, key: RingKey, dom: DomId)
+        ensures left { self.new ≡ without_notice self.old key dom }
         ensures gone { (r : TheRing) → own_ring self.new key ≡ Some r
             → withdrawn r.notices dom ≡ r.notices }
     {
@@ -80,21 +63,11 @@ impl Live {
         };
         forget(ring, dom);
     }
-
-    /// Ends all rings, and clears the flag.
-    pub fn reset(&mut self, _alloc: Global)
-        ensures { self.new ≡ reset_live self.old }
-    {
-        self.flag = false;
-        'rings: while let Some(key) = self.first_ring() {
-            self.end_ring(key);
-        }
-    }
 }
 
 // Ends the notice of a domain.
 fn forget(ring: &mut Ring, dom: DomId)
-    ensures left { Becomes ring.old ring.new (λ p. ends.forgotten dom p) }
+    ensures left { Becomes ring.old ring.new (λ p. forgotten dom p) }
     ensures gone { withdrawn ring.new.notices dom ≡ ring.new.notices }
     ensures still { StandsStill ring.old ring.new }
 {

@@ -1,10 +1,9 @@
 //! What a report shows of the rings of a domain, taken out of it.
 ghost use Rattle.std.specs.Prelude.{◌≡◌, [], IfOk, map, take, drop};
-ghost use Rattle.argo_model.specs.Runs.Final.{final_ring, notice_line_of};
+ghost use Rattle.argo_model.specs.Runs.Final.{notice_line_of};
 ghost use Rattle.guest_pages.specs.Rows.{row_bytes};
 ghost use Rattle.paged_live.specs.Finals.{final_of, shown_of, TookFirst};
 
-use crate::live::Live;
 use argo_base::{Bytes, DomId, NoMemory, RingKey};
 use argo_model::{FinalRing, FinalRings, NoticeLine, NoticeLines};
 use guest_pages::PageRow;
@@ -12,17 +11,8 @@ use ring_core::Ring;
 use ring_table::Table;
 use std::alloc::Global;
 
-impl Live {
-    /// A row for each ring, by rising key. Where memory runs out all is lost.
-    pub fn into_final_rings(self, alloc: Global) -> Result<FinalRings, NoMemory>
-        ensures { IfOk result (λ finals. finals ≡ map (final_ring self.bytes) self.rings) }
-    {
-        let Live { rings, .. } = self;
-        rings_of(alloc, rings)
-    }
-}
-
-fn rings_of(alloc: Global, rings: Table<Ring>) -> Result<FinalRings, NoMemory>
+/// A row for each ring, by rising key. Where memory runs out all is lost.
+pub(crate) fn rings_of(alloc: Global, rings: Table<Ring>) -> Result<FinalRings, NoMemory>
     ensures { IfOk result (λ finals. finals ≡ map final_of rings) }
 {
     let mut rings = rings;

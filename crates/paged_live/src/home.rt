@@ -1,10 +1,11 @@
 //! In which ring a lent page stands.
-ghost use Rattle.std.specs.Prelude.{◌≡◌, ◌<◌, ◌^◌, length};
+ghost use Rattle.std.specs.Prelude.{◌≡◌, ◌<◌, ◌^◌, IfOk, None, length, replicate};
 ghost use Rattle.guest_pages.specs.Rows.{numbers_of};
 ghost use Rattle.paged_live.specs.Homes as places;
 
-use argo_base::RingKey;
+use argo_base::{NoMemory, RingKey};
 use guest_pages::PageRow;
+use std::alloc::Global;
 
 /// Where a lent page stands: the ring of this key, and the page's place among the ring's.
 #[derive(Clone, Copy, Debug)]
@@ -65,4 +66,15 @@ fn set(homes: &mut [Option<Home>], page: u64, home: Option<Home>)
     if page < homes.len() as u64 {
         homes[page as usize] = home;
     }
+}
+
+/// No page of so many is lent.
+pub(crate) fn no_homes(alloc: Global, count: u32) -> Result<Vec<Option<Home>>, NoMemory>
+    ensures { IfOk result (λ homes. homes.items ≡ replicate count None) }
+{
+    let mut homes = Vec::with_capacity(alloc, count as usize)?;
+    for _ in 0..count {
+        homes.push(None)?;
+    }
+    Ok(homes)
 }

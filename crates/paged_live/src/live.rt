@@ -1,13 +1,12 @@
 //! What a domain has that is alive.
-ghost use Rattle.std.specs.Prelude.{◌≡◌, ◌+◌, ◌*◌, ◌≤◌, ◌<◌, IfOk, None, length, replicate, take, drop};
+ghost use Rattle.std.specs.Prelude.{◌≡◌, ◌+◌, ◌*◌, ◌≤◌, ◌<◌, IfOk, length, take, drop};
 ghost use Rattle.argo_base.specs.Limits.{page_bytes};
 ghost use Rattle.argo_model.specs.Rules.Act as acts;
 ghost use Rattle.argo_model.specs.Rules.Effects as effects;
-ghost use Rattle.argo_model.specs.Rules.State.{flagged, fresh_live};
 ghost use Rattle.guest_pages.specs.Rows.{row_bytes};
 
 use crate::home::{Home, home_at};
-use argo_base::{Bytes, NoMemory, PAGE_BYTES};
+use argo_base::{Bytes, DomId, NoMemory, PAGE_BYTES};
 use argo_model::Outcome;
 use guest_pages::Private;
 use ring_core::Ring;
@@ -25,6 +24,8 @@ pub struct Live {
     pub(crate) flag: bool,
     pub(crate) next_serial: u64,
     pub(crate) rings: Table<Ring>,
+    /// The domain, which owns the rings.
+    pub(crate) dom: DomId,
 }
 
 impl Model for Live {
@@ -52,23 +53,14 @@ impl Model for Live {
 }
 
 impl Live {
-    /// What a domain of so many pages has as it starts.
-    pub fn fresh(alloc: Global, pages: u32) -> Result<Live, NoMemory>
-        ensures { IfOk result (λ live. live ≡ fresh_live pages) }
-    {
-        let private = Private::new(alloc, pages)?;
-        let homes = no_homes(alloc, pages)?;
-        Ok(Live {
-            private,
-            homes,
-            flag: false,
-            next_serial: 1,
-            rings: Table::new(alloc),
-        })
-    }
-
     /// Fetches `n` bytes at an offset of a page.
-    pub fn fetch(&self, alloc: Global, page: u64, off: u32, n: u32) -> Result<Outcome, NoMemory>
+    pub(crate) fn fetch(
+        &self,
+        alloc: Global,
+        page: u64,
+        off: u32,
+        n: u32,
+    ) -> Result<Outcome, NoMemory>
         requires { off + n ≤ 4096 }
         ensures { IfOk result (λ o. o ≡ acts.fetch self.now page off n) }
     {
@@ -86,27 +78,13 @@ impl Live {
     }
 
     /// Tells the flag, and clears it.
-    pub fn look(&mut self) -> Outcome
+    pub(crate) fn look(&mut self) -> Outcome
         ensures outcome { result ≡ (acts.look self.old).outcome }
         ensures left { self.new ≡ effects.after self.old (acts.look self.old) }
     {
         let flag = self.flag;
         self.flag = false;
         Outcome::Flag(flag)
-    }
-
-    /// Whether the flag is set.
-    pub fn flag(&self) -> bool
-        ensures { result ≡ self.now.flag }
-    {
-        self.flag
-    }
-
-    /// Sets the flag.
-    pub fn signal(&mut self)
-        ensures { self.new ≡ flagged self.old }
-    {
-        self.flag = true;
     }
 }
 
@@ -124,15 +102,4 @@ fn read(alloc: Global, ring: &Ring, place: u32, off: u32, n: u32) -> Result<Byte
     let mut bytes = vec![in alloc; 0u8; n as usize]?;
     ring.read(PAGE_BYTES * place + off, bytes.as_mut_slice());
     Ok(Bytes::from_vec(bytes))
-}
-
-// No page of so many is lent.
-fn no_homes(alloc: Global, count: u32) -> Result<Vec<Option<Home>>, NoMemory>
-    ensures { IfOk result (λ homes. homes.items ≡ replicate count None) }
-{
-    let mut homes = Vec::with_capacity(alloc, count as usize)?;
-    for _ in 0..count {
-        homes.push(None)?;
-    }
-    Ok(homes)
 }

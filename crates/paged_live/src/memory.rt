@@ -8,20 +8,8 @@ use argo_model::Outcome;
 use std::alloc::Global;
 
 impl Live {
-    /// A copy of the memory, 4,096 bytes a page.
-    pub fn memory(&self, alloc: Global) -> Result<Bytes, NoMemory>
-        ensures { IfOk result (λ bytes. bytes ≡ self.now.bytes) }
-    {
-        let mut bytes = Bytes::new(alloc);
-        for page in 0..self.private.count() {
-            let part = self.page(alloc, page)?;
-            bytes.append(part.as_slice())?;
-        }
-        Ok(bytes)
-    }
-
-    // A copy of a page, or nothing where the domain has no such page.
-    fn page(&self, alloc: Global, page: u32) -> Result<Bytes, NoMemory>
+    /// A copy of a page, or nothing where the domain has no such page.
+    pub(crate) fn page(&self, alloc: Global, page: u32) -> Result<Bytes, NoMemory>
         ensures { IfOk result
             (λ bytes. bytes ≡ take page_bytes (drop (page_bytes * page) self.now.bytes)) }
     {

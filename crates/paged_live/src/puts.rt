@@ -15,7 +15,7 @@ use ring_core::Ring;
 
 impl Live {
     /// Puts bytes at an offset of a page. It takes no memory.
-    pub fn put(&mut self, page: u64, off: u32, bytes: &[u8]) -> Outcome
+    pub(crate) fn put(&mut self, page: u64, off: u32, bytes: &[u8]) -> Outcome
         requires { off + length bytes.now ≤ 4096 }
         ensures outcome { result ≡ (acts.put self.old page off bytes.now).outcome }
         ensures left { self.new ≡ effects.after self.old (acts.put self.old page off bytes.now) }

@@ -17,57 +17,20 @@ ghost use Rattle.ring_core.specs.Restarts.{given_back, lent_bytes, restarted, ri
 ghost use Rattle.ring_table.specs.Edits.{with_row};
 ghost use Rattle.ring_table.specs.Rows.{held_at};
 
-use crate::change::Change;
 use crate::home::{clear, settle, settle_row};
 use crate::live::Live;
-use crate::sweeps::{list, room_for_all};
-use argo_base::{DomId, Ended, Errno, NoMemory, PageList, RingId, RingKey};
+use crate::sweeps::{list, room_for};
+use argo_base::{DomId, Ended, Errno, NoMemory, RingId, RingKey};
 use argo_model::Outcome;
 use guest_pages::{LendFault, PageRow, Private};
+use live_domain::Change;
 use ring_core::Ring;
-use ring_table::{InsertFault, MOST_ROWS, Table};
+use ring_table::{InsertFault, Table};
 use std::alloc::Global;
 
-/// What a caller asks for when it registers a ring.
-#[derive(Drop)]
-pub struct Registration {
-    pub key: RingKey,
-    pub len: u32,
-    pub pages: PageList,
-    /// Whether a ring that stands already is a refusal.
-    pub fail_exist: bool,
-}
-
 impl Live {
-    /// Registers a ring. Where memory runs out all stays.
-    pub fn register(&mut self, alloc: Global, r: Registration) -> Result<Change, NoMemory>
-        requires legal { IsTrue (is_legal r.len) }
-        requires counted { length r.pages ≡ page_count r.len }
-        requires young { self.old.next_serial < 2 ^ 63 }
-        ensures outcome { IfOk result (λ c. c.outcome
-            ≡ (rules.register_own self.old r.key r.len r.pages r.fail_exist).outcome) }
-        ensures signals { IfOk result (λ c. c.signals.items
-            ≡ (rules.register_own self.old r.key r.len r.pages r.fail_exist).signals) }
-        ensures left { OnOk result (self.new
-            ≡ after self.old (rules.register_own self.old r.key r.len r.pages r.fail_exist)) }
-        ensures err { OnErr result (self.new ≡ self.old) }
-    {
-        let stands = self.has_ring(r.key);
-        if stands && r.fail_exist {
-            return Ok(Change::quiet(alloc, Outcome::Refused(Errno::Exist)));
-        }
-        if stands {
-            return self.register_anew(alloc, &r.key, r.len, r.pages.as_slice());
-        }
-        if self.rings.count() >= MOST_ROWS {
-            return Ok(Change::quiet(alloc, Outcome::Refused(Errno::NoSpc)));
-        }
-        let outcome = self.register_new(alloc, &r.key, r.len, r.pages.as_slice())?;
-        Ok(Change::quiet(alloc, outcome))
-    }
-
-    // Registers a ring of a key under which none stands. Where memory runs out all stays.
-    fn register_new(
+    /// Registers a ring of a key under which none stands. Where memory runs out all stays.
+    pub(crate) fn register_new(
         &mut self,
         alloc: Global,
         key: &RingKey,
@@ -90,7 +53,7 @@ impl Live {
             Err(LendFault::NoMemory) => return Err(NoMemory),
         };
         let word = tx_word(&row);
-        let ring = ring_on(alloc, key, len, row);
+        let ring = ring_on(alloc, self.dom, key, len, row);
         if let Err(ring) = insert(&mut self.rings, *key, self.next_serial, ring) {
             self.private.give_back(unstarted(ring, word));
             return Err(NoMemory);
@@ -100,8 +63,8 @@ impl Live {
         Ok(Outcome::Done)
     }
 
-    // Registers a ring that stands anew. Where memory runs out all stays.
-    fn register_anew(
+    /// Registers a ring that stands anew. Where memory runs out all stays.
+    pub(crate) fn register_anew(
         &mut self,
         alloc: Global,
         key: &RingKey,
@@ -127,7 +90,7 @@ impl Live {
         if stands_so(ring, len, pages) {
             return Ok(Change::quiet(alloc, Outcome::Done));
         }
-        let mut signals = room_for_all(alloc)?;
+        let mut signals = room_for(alloc, ring)?;
         clear(self.homes.as_mut_slice(), ring.row());
         match restart(ring, len, &mut self.private, pages) {
             Ok(ended) => {
@@ -149,8 +112,8 @@ impl Live {
     }
 }
 
-// A new ring on these pages. A domain is not told its own id, so the ring's name has none.
-fn ring_on(alloc: Global, key: &RingKey, len: u32, row: PageRow) -> Ring
+// A new ring of this owner on these pages.
+fn ring_on(alloc: Global, owner: DomId, key: &RingKey, len: u32, row: PageRow) -> Ring
     requires legal { IsTrue (is_legal len) }
     requires counted { length row ≡ page_count len }
     ensures new { (serial : ℕ) → paged serial result ≡ ring_on serial len row }
@@ -158,7 +121,7 @@ fn ring_on(alloc: Global, key: &RingKey, len: u32, row: PageRow) -> Ring
     ensures sized { length (row_bytes result.row) ≡ page_bytes * length result.row }
 {
     let id = RingId {
-        owner: DomId(0),
+        owner,
         port: key.port,
         partner: key.partner,
     };

@@ -1,10 +1,11 @@
 //! A ring that takes a message, is swept, and ends, and whose bytes stay in the memory.
 ghost use Rattle.std.specs.Prelude.{◌<◌, ◌^◌};
 
-use crate::{Live, Offer, Registration};
+use crate::Live;
 use argo_base::slots::{is_legal, page_count};
 use argo_base::{Bytes, DomId, LONGEST_BODY, PageList, RingKey};
 use argo_model::{Load, Outcome};
+use live_domain::{KeyedRings, LiveDomain, Offer, Registration};
 use std::alloc::Global;
 use std::process::Abort;
 use std::test::Fail;
@@ -61,13 +62,18 @@ fn is_done(outcome: &Outcome) -> bool {
 #[test]
 fn a_ring_takes_a_message_and_its_bytes_stay(rt: HostRuntime) -> Result<(), Fail> {
     let alloc = rt.alloc();
-    let mut live = Live::fresh(alloc, 3)?;
+    let mut live = Live::fresh(alloc, DomId(1), 3)?;
     assert!(rt; is_done(&register(&rt, alloc, &mut live, 1)?));
     assert!(rt; is_accepted(&send(&rt, alloc, &mut live, &[7; 16])?));
     assert!(rt; !is_accepted(&send(&rt, alloc, &mut live, &[8; 64])?));
+    assert!(rt; live.is_noted(KEY, SENDER));
+    assert_eq!(rt; live.next_ring(0), Some(KEY));
+    let closed = live.closed_rings(alloc)?;
+    assert_eq!(rt; closed.len(), 1);
     assert!(rt; is_done(&live.put(1, 0, &[32, 0, 0, 0])));
     let change = live.sweep(alloc, 0)?;
     assert_eq!(rt; change.signals.as_slice(), [SENDER].as_slice());
+    assert_eq!(rt; live.noted(KEY).len(), 0);
     assert!(rt; is_done(&live.unregister(KEY)));
     match live.fetch(alloc, 1, 80, 4)? {
         Outcome::Bytes(bytes) => assert_eq!(rt; bytes.as_slice(), [7; 4].as_slice()),

@@ -44,7 +44,7 @@ key_itself k = ap is_eq (tied_itself key_total k)
 
 -- ---- entries of all buckets
 
-or_none : {X : Type 0} (x : Option X) → option_or x None ≡ x
+pub or_none : {X : Type 0} (x : Option X) → option_or x None ≡ x
 or_none None = refl
 or_none (Some x) = refl
 

@@ -136,7 +136,7 @@ module _ {K X : Type 0} {R : K → K → Ordering} (o : IsTotalOrder R) where
   below x y ys t p = lookup-none (is_at (R x.0)) (y ∷ ys) (none_below_head o x.0 y ys t p)
 
   -- a key that is equal to the first is not among the others
-  past : (q : K) (x : K × X) (xs : List (K × X)) → IsStrictlySortedBy R (keys_of (x ∷ xs)) → is_eq (R q x.0) ≡ true → find xs q ≡ None
+  pub past : (q : K) (x : K × X) (xs : List (K × X)) → IsStrictlySortedBy R (keys_of (x ∷ xs)) → is_eq (R q x.0) ≡ true → find xs q ≡ None
   past q x xs s p = lookup-none (is_at (R q)) xs (none_past_head (eq_by_cmp_equiv o) q x xs (IsDistinct-from_sorted R _ s) p)
 
   tails : (x y : K × X) (xs ys : List (K × X)) → x.0 ≡ y.0 → IsStrictlySortedBy R (keys_of (x ∷ xs)) → IsStrictlySortedBy R (keys_of (y ∷ ys))

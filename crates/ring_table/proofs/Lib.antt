@@ -2,5 +2,6 @@ pub mod BucketLaws
 pub mod EditLaws
 pub mod EntryLaws
 pub mod FirstLaws
+pub mod ListingLaws
 pub mod ScanLaws
 pub mod TableLaws

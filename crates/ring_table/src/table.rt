@@ -9,6 +9,7 @@ ghost use Rattle.ring_table.specs.Buckets as buckets;
 
 mod counted;
 mod edits;
+mod listing;
 mod scan;
 
 use crate::Row;

@@ -1,9 +1,13 @@
-use Rattle.std.proofs.Common.{◌∙◌, refl, subst}
+use Rattle.std.proofs.Common.{◌∙◌, length, refl, ap, subst, arith}
+use Rattle.argo_base.specs.Notices.{fits_now}
 use Rattle.argo_model.specs.Rules.Effects.{after}
 use Rattle.argo_model.specs.Rules.Sweep.{sweep_ring}
+use Rattle.argo_model.specs.Rules.RingBytes.{free}
 use Rattle.guest_pages.proofs.FlatLaws.{length-row_bytes}
+use Rattle.ring_core.specs.Held.{paged}
 use Rattle.paged_live.proofs.ActLaws.{stands_still}
 use Rattle.paged_live.proofs.HomeLaws.{AreWhole}
+use Rattle.paged_live.proofs.NoticeLaws.{no_more}
 use Rattle.paged_live.proofs.sweeps.sweep_ring.Goals as goal
 
 pub returns-clause-still : goal.returns-clause-still
@@ -17,3 +21,10 @@ returns-in_err-doms-clause-still c =
 
 pub returns-clause-signals : goal.returns-clause-signals
 returns-clause-signals c serial = c.list.ensures ∙ c.sweep-ended.ensures.signals serial
+
+pub list-requires-clause-room : goal.list-requires-clause-room
+list-requires-clause-room c =
+    let ring = c.args.ring.now in
+    let few = no_more (fits_now (free (paged 0 ring))) ring.notices in
+    let same = ap length (c.sweep-ended.ensures.signals 0) in
+    omega (arith, few, same, c.in_ok-doms.ensures.room)

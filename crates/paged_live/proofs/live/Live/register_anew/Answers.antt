@@ -1,5 +1,6 @@
 use Rattle.std.proofs.Common.{◌++◌, IsTrue, length, take, drop, Err, refl, sym, ap, ◌∙◌, subst, arith}
 use Rattle.std.specs.Option.{option_copied_mut}
+use Rattle.argo_base.specs.Notices.{never_fits}
 use Rattle.argo_base.specs.Numbers.{all_differ}
 use Rattle.argo_model.specs.Rules.Effects.{Change, after}
 use Rattle.argo_model.specs.Rules.Register.{has_ring}
@@ -13,7 +14,7 @@ use Rattle.paged_live.specs.Registers.{anew_if_free}
 use Rattle.paged_live.proofs.BackLaws.{resettled, few_pages, settled_back}
 use Rattle.paged_live.proofs.EndLaws.{never}
 use Rattle.paged_live.proofs.HomeLaws.{AreWhole}
-use Rattle.paged_live.proofs.NoticeLaws.{no_value}
+use Rattle.paged_live.proofs.NoticeLaws.{no_value, no_more}
 use Rattle.paged_live.proofs.OwnLaws.{anew_refused}
 use Rattle.paged_live.proofs.PartsLaws.{found_value, changed_parts, unchanged_seen, in_any_case}
 use Rattle.paged_live.proofs.RegisterLaws.{anew_free, moved_is, moved_parts, moved_seen, stays_is, moves_to, kept_is}
@@ -115,6 +116,13 @@ returns-in_err-signals-clause-err c =
     let whole = subst AreWhole c.row.ensures c.count.ensures.whole in
     let still : StandsStill a a = record { id = refl; pages = refl; sized = length-row_bytes a.row whole } in
     in_any_case c.from_residual.result (unchanged_seen x c.self.invariant key a a f still (λ serial. refl) ∙ c.self.view_is)
+
+pub list-requires-clause-room : goal.list-requires-clause-room
+list-requires-clause-room c =
+    let a = c.in-Some.ring.now in
+    let few = no_more (never_fits c.args.len) a.notices in
+    let same = ap length c.in-Ok.ensures.ended in
+    omega (arith, few, same, c.in_ok-signals.ensures.room)
 
 pub invariant_of-self-in-Ok : goal.invariant_of-self-in-Ok
 invariant_of-self-in-Ok c =
