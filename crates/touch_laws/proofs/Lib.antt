@@ -1,0 +1,7 @@
+pub mod ActLaws
+pub mod EndLaws
+pub mod LeftLaws
+pub mod NoticeLaws
+pub mod NumberLaws
+pub mod RingLaws
+pub mod TouchLaws
