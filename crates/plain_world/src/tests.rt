@@ -5,7 +5,7 @@ ghost use Rattle.argo_model.specs.Rules.Fit.{is_fit};
 use crate::ListedDomains;
 use crate::visits::Visits;
 use argo_base::slots::{is_legal, page_count};
-use argo_base::{Bytes, DomId, LONGEST_BODY, PageList, drawn, next_number};
+use argo_base::{Bytes, DomId, Errno, LONGEST_BODY, PageList, drawn, next_number};
 use argo_model::{Action, Actor, ClosedDomains, DomainLine, Load, Outcome};
 use flat_world::FlatDomains;
 use paged_live::Live;
@@ -160,6 +160,8 @@ fn domains_with_lists_do_as_those_without(rt: HostRuntime) -> Result<(), Fail> {
     let mut flat: Trial<FlatDomains> = Trial::start(alloc, 4)?;
     let mut listed: Trial<ListedDomains<Live>> = Trial::start(alloc, 4)?;
     let mut number = 1;
+    let mut accepted = false;
+    let mut waited = false;
     for _ in 0..1000u32 {
         number = next_number(number);
         let actor = Actor::Vcpu(
@@ -169,10 +171,13 @@ fn domains_with_lists_do_as_those_without(rt: HostRuntime) -> Result<(), Fail> {
         number = next_number(number);
         let one = flat.act(&rt, alloc, actor, action_of(&rt, alloc, drawn(number))?)?;
         let other = listed.act(&rt, alloc, actor, action_of(&rt, alloc, drawn(number))?)?;
+        accepted = accepted || matches!(one, Outcome::Accepted(_));
+        waited = waited || matches!(one, Outcome::Refused(Errno::Again));
         let one = format!(in alloc; "{one:?}")?;
         let other = format!(in alloc; "{other:?}")?;
         assert_eq!(rt; one.as_str(), other.as_str());
     }
+    assert!(rt; accepted && waited);
     let one = format!(in alloc; "{:?}", flat.closed(&rt, alloc)?)?;
     let other = format!(in alloc; "{:?}", listed.closed(&rt, alloc)?)?;
     assert!(rt; one.as_str() == other.as_str());

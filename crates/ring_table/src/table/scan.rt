@@ -68,6 +68,9 @@ fn next_in<'a, T>(
 ) -> Option<&'a Row<T>>
     ensures { option_copied result ≡ scans.next_in serial (option_copied start.entry) bucket.now }
 {
+    if bucket.is_empty() {
+        return start;
+    }
     let mut best = start;
     for row in bucket.values() {
         best = nearer(best, row, serial);
