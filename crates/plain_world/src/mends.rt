@@ -35,7 +35,8 @@ pub(crate) fn take_off(lists: &mut DomainLists, doms: &[DomId], id: &RingId)
 /// Takes a ring off the lists of the domains that have these notices.
 pub(crate) fn take_off_noted(lists: &mut DomainLists, noted: &[(DomId, u32)], id: &RingId)
     ensures names { (d : ℕ) (x : Id) → names lists.new d x
-        ≡ (names lists.old d x && not (has_number (doms_of noted.now) d && is_at (id_cmp id.now) x)) }
+        ≡ (names lists.old d x
+        && not (has_number (doms_of noted.now) d && is_at (id_cmp id.now) x)) }
     ensures lengths { AreNoLonger lists.old lists.new }
 {
     for (dom, _) in noted {
