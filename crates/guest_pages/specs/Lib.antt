@@ -1,3 +1,4 @@
+pub mod Allocated
 pub mod Lending
 pub mod LendingRow
 pub mod PageBytes

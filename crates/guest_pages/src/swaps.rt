@@ -1,8 +1,10 @@
 //! Pages change places between private memory and a row, by their pointers.
-ghost use Rattle.std.specs.Prelude.{◌≡◌, IfOk, slice_set, slice_index_or, is_some};
+ghost use Rattle.std.specs.Prelude.{◌≡◌, IfOk, OnOk, OnErr, Err, IsTrue, IsFalse, map, slice_set, slice_index_or, is_some};
 ghost use Rattle.std.specs.List.{list_all};
+ghost use Rattle.guest_pages.specs.Allocated.{allocated, Each, IsGrownPlace};
 ghost use Rattle.guest_pages.specs.Swaps.{blanks, swapped_in, swapped_back};
 
+use crate::LendFault;
 use crate::page::{Lent, Page};
 use argo_base::NoMemory;
 use std::alloc::Global;
@@ -22,8 +24,8 @@ pub(crate) fn blanks(alloc: Global, numbers: &[u64]) -> Result<Vec<Lent>, NoMemo
     Ok(row)
 }
 
-/// Whether each place holds a page.
-pub(crate) fn is_full(row: &[Lent]) -> bool
+// Whether each place holds a page.
+fn is_full(row: &[Lent]) -> bool
     ensures { result ≡ list_all (λ e. is_some e.page) row.now }
 {
     row.iter().all(|e| e.page.is_some())
@@ -76,4 +78,30 @@ pub(crate) fn swap_back(pages: &mut Vec<Option<Page>>, row: &mut Vec<Lent>)
     ensures row { row.new.items ≡ (swapped_back pages.old.items row.old.items).1 }
 {
     swap_places_back(pages.as_mut_slice(), row.as_mut_slice());
+}
+
+// Each page of the row takes its memory. Where memory runs out, some have taken theirs.
+fn allocate_places(alloc: Global, row: &mut [Lent]) -> Result<(), NoMemory>
+    ensures ok { OnOk result (row.new ≡ map allocated row.old) }
+    ensures err { OnErr result (Each IsGrownPlace row.old row.new) }
+{
+    for place in row.iter_mut() {
+        place.allocate(alloc)?;
+    }
+    Ok(())
+}
+
+/// Each page of a full row takes its memory. Where memory runs out, some have taken theirs, and their bytes are zero still.
+pub(crate) fn allocate(alloc: Global, row: &mut Vec<Lent>) -> Result<(), LendFault>
+    ensures full { OnOk result (IsTrue (list_all (λ e. is_some e.page) row.old.items)) }
+    ensures ok { OnOk result (row.new.items ≡ map allocated row.old.items) }
+    ensures pages { result ≡ Err LendFault.Pages
+        → IsFalse (list_all (λ e. is_some e.page) row.old.items) }
+    ensures err { OnErr result (Each IsGrownPlace row.old.items row.new.items) }
+{
+    if !is_full(row.as_slice()) {
+        return Err(LendFault::Pages);
+    }
+    allocate_places(alloc, row.as_mut_slice())?;
+    Ok(())
 }

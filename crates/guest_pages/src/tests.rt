@@ -6,7 +6,7 @@ use std::test::Fail;
 #[test]
 fn pages_are_lent_where_there_is_memory(rt: HostRuntime) -> Result<(), Fail> {
     let mut private = Private::new(rt.alloc(), 3)?;
-    assert!(rt; private.write(2, 4, b"ab"));
+    assert!(rt; private.write(2, 4, b"ab")?);
     let row = private.lend([2, 0].as_slice())?;
     assert!(rt; private.read(2, 4, 2)?.is_none());
     match private.exchange(row, [2, 1].as_slice()) {
