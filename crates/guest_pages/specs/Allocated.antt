@@ -1,6 +1,6 @@
 -- Pages that take their memory. A page that was never written shows no bytes, and all of its bytes are zero.
-use Rattle.std.specs.Prelude.{ℕ, ◌≡◌, List, [], ◌∷◌, Option, option_map, map}
-use Rattle.guest_pages.specs.declared.page.Lent.{Lent}
+use Rattle.std.specs.Prelude.{ℕ, ◌≡◌, ◌⊎◌, List, [], ◌∷◌, Option, option_map, map}
+use Rattle.guest_pages.specs.declared.lazy_page.Lent.{Lent}
 use Rattle.guest_pages.specs.PageBytes.{page_of}
 
 -- a domain's pages as they are seen, each with all of its bytes

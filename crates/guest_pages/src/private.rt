@@ -5,7 +5,7 @@ ghost use Rattle.argo_base.specs.Limits.{page_bytes};
 ghost use Rattle.guest_pages.specs.PageBytes.{zero_page, IsWhole};
 ghost use Rattle.guest_pages.specs.Pages.{page_at, with_written, can_lend, row_of, without, with_row};
 
-use crate::page::Page;
+use crate::lazy_page::LazyPage;
 use crate::swaps::{allocate, blanks, swap_back, swap_in};
 use crate::{LendFault, PageRow};
 use argo_base::{Bytes, NoMemory};
@@ -15,7 +15,7 @@ use std::marker::Model;
 /// The pages of a domain, by number. Contracts see a list: under each number the page's bytes, or none where it is lent.
 #[derive(Debug, Drop)]
 pub struct Private {
-    slots: Vec<Option<Page>>,
+    slots: Vec<Option<LazyPage>>,
 }
 
 impl Model for Private {
@@ -37,7 +37,7 @@ impl Private {
     {
         let mut slots = Vec::with_capacity(alloc, count as usize)?;
         for _ in 0..count {
-            slots.push(Some(Page::new()))?;
+            slots.push(Some(LazyPage::new()))?;
         }
         Ok(Private { slots })
     }
@@ -78,8 +78,7 @@ impl Private {
         let Some(page) = slot else {
             return Ok(false);
         };
-        page.allocate(alloc)?;
-        page.write(off, bytes);
+        page.write(alloc, off, bytes)?;
         Ok(true)
     }
 

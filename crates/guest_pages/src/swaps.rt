@@ -5,7 +5,7 @@ ghost use Rattle.guest_pages.specs.Allocated.{allocated, Each, IsGrownPlace};
 ghost use Rattle.guest_pages.specs.Swaps.{blanks, swapped_in, swapped_back};
 
 use crate::LendFault;
-use crate::page::{Lent, Page};
+use crate::lazy_page::{LazyPage, Lent};
 use argo_base::NoMemory;
 use std::alloc::Global;
 use std::mem;
@@ -32,7 +32,7 @@ fn is_full(row: &[Lent]) -> bool
 }
 
 // What stands under a place's number and what the place holds change places.
-fn swap_place(pages: &mut [Option<Page>], place: &mut Lent)
+fn swap_place(pages: &mut [Option<LazyPage>], place: &mut Lent)
     ensures pages { pages.new ≡ slice_set pages.old place.old.number place.old.page }
     ensures number { place.new.number ≡ place.old.number }
     ensures page { place.new.page ≡ slice_index_or pages.old place.old.number place.old.page }
@@ -43,7 +43,7 @@ fn swap_place(pages: &mut [Option<Page>], place: &mut Lent)
 }
 
 // Each place of the row in turn changes what it holds for what stands under its number.
-fn swap_places(pages: &mut [Option<Page>], row: &mut [Lent])
+fn swap_places(pages: &mut [Option<LazyPage>], row: &mut [Lent])
     ensures pages { pages.new ≡ (swapped_in pages.old row.old).0 }
     ensures row { row.new ≡ (swapped_in pages.old row.old).1 }
 {
@@ -53,7 +53,7 @@ fn swap_places(pages: &mut [Option<Page>], row: &mut [Lent])
 }
 
 // The same from the row's end to its start.
-fn swap_places_back(pages: &mut [Option<Page>], row: &mut [Lent])
+fn swap_places_back(pages: &mut [Option<LazyPage>], row: &mut [Lent])
     ensures pages { pages.new ≡ (swapped_back pages.old row.old).0 }
     ensures row { row.new ≡ (swapped_back pages.old row.old).1 }
 {
@@ -65,7 +65,7 @@ fn swap_places_back(pages: &mut [Option<Page>], row: &mut [Lent])
 }
 
 /// Each place of the row in turn changes what it holds for what stands under its number.
-pub(crate) fn swap_in(pages: &mut Vec<Option<Page>>, row: &mut Vec<Lent>)
+pub(crate) fn swap_in(pages: &mut Vec<Option<LazyPage>>, row: &mut Vec<Lent>)
     ensures pages { pages.new.items ≡ (swapped_in pages.old.items row.old.items).0 }
     ensures row { row.new.items ≡ (swapped_in pages.old.items row.old.items).1 }
 {
@@ -73,7 +73,7 @@ pub(crate) fn swap_in(pages: &mut Vec<Option<Page>>, row: &mut Vec<Lent>)
 }
 
 /// The same from the row's end to its start, which undoes it.
-pub(crate) fn swap_back(pages: &mut Vec<Option<Page>>, row: &mut Vec<Lent>)
+pub(crate) fn swap_back(pages: &mut Vec<Option<LazyPage>>, row: &mut Vec<Lent>)
     ensures pages { pages.new.items ≡ (swapped_back pages.old.items row.old.items).0 }
     ensures row { row.new.items ≡ (swapped_back pages.old.items row.old.items).1 }
 {
