@@ -1,8 +1,9 @@
 -- Laws of the bytes of a page.
-use Rattle.std.proofs.Common.{◌≡◌, ℕ, ◌+◌, ◌-◌, ◌≤◌, List, [], ◌++◌, length, take, drop, replicate, sym, ap, ◌∙◌, arith, length-append}
+use Rattle.std.proofs.Common.{◌≡◌, ℕ, ◌+◌, ◌-◌, ◌≤◌, List, [], ◌++◌, length, take, drop, replicate, Option, Some, None, sym, ap, ◌∙◌, arith, length-append}
+use Rattle.std.specs.Prelude.{unwrap_or}
 use Rattle.std.proofs.Math.Seq.{take-append_seam}
 use Rattle.std.proofs.lemmas.List.{length-replicate, length-take-le, take-replicate, drop-replicate}
-use Rattle.guest_pages.specs.PageBytes.{zero_page, page_of}
+use Rattle.guest_pages.specs.PageBytes.{zero_page, page_of, HoldsPage}
 
 pub length-zero_page : length zero_page ≡ 4096
 unfolding zero_page
@@ -26,3 +27,8 @@ page_of_none = take-replicate {X = ℕ} 4096 4096 0 (omega arith)
 pub zeros_read : (off n : ℕ) → off + n ≤ 4096 → take n (drop off zero_page) ≡ replicate n 0
 unfolding zero_page
 zeros_read off n inside = ap (take n) (drop-replicate {X = ℕ} off 4096 0) ∙ take-replicate {X = ℕ} n (4096 - off) 0 (omega (arith, inside))
+
+-- where a page's memory shows 4,096 bytes, there is a page
+pub held_from_length : (o : Option (List ℕ)) → length (unwrap_or o []) ≡ 4096 → HoldsPage o
+held_from_length None long = absurd (omega (arith, long))
+held_from_length (Some p) long = long

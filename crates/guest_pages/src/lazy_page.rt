@@ -4,7 +4,7 @@ ghost use Rattle.std.specs.Borrow.{sem};
 ghost use Rattle.argo_base.specs.Limits.{page_bytes};
 ghost use Rattle.argo_base.specs.Splice.{splice};
 ghost use Rattle.guest_pages.specs.Allocated.{allocated};
-ghost use Rattle.guest_pages.specs.LendingPage.{LendsLazy, LendsPage};
+ghost use Rattle.guest_pages.specs.LendingPage.{LendsFrame, LendsLazy, LendsPage};
 ghost use Rattle.guest_pages.specs.PageBytes.{page_of, HoldsPage};
 
 use crate::page::Page;
@@ -12,11 +12,30 @@ use argo_base::{Bytes, NoMemory};
 use std::alloc::Global;
 use std::marker::Model;
 
+/// The memory of a page, where it has some.
+#[derive(Debug, Drop)]
+struct Frame {
+    page: Option<Page>,
+}
+
+impl Frame {
+    fn page_mut(&mut self) -> &mut Page
+        requires { HoldsPage self.old.page }
+        ensures* writes_back { sem 𝓛 (LendsFrame self.entry result) }
+        ensures value { self.old.page ≡ Some result.now }
+    {
+        match &mut self.page {
+            Some(page) => page,
+            None => unreachable!(),
+        }
+    }
+}
+
 /// A page, which takes no memory until it is written first or lent. Contracts see no bytes of one that has no memory, and
 /// all of its bytes are zero.
 #[derive(Debug, Drop)]
 pub(crate) struct LazyPage {
-    page: Option<Page>,
+    frame: Frame,
 }
 
 impl Model for LazyPage {
@@ -24,7 +43,7 @@ impl Model for LazyPage {
 
     ghost Value = { List ℕ };
 
-    ghost view = { λ p. unwrap_or p.page [] };
+    ghost view = { λ p. unwrap_or p.frame.page [] };
 }
 
 impl LazyPage {
@@ -32,7 +51,9 @@ impl LazyPage {
     pub(crate) fn new() -> Self
         ensures { result ≡ [] }
     {
-        LazyPage { page: None }
+        LazyPage {
+            frame: Frame { page: None },
+        }
     }
 
     /// Takes the page's memory, where it has none.
@@ -40,11 +61,11 @@ impl LazyPage {
         ensures ok { OnOk result (self.new ≡ page_of self.old) }
         ensures err { OnErr result (self.new ≡ self.old) }
     {
-        if let Some(page) = &self.page {
+        if let Some(page) = &self.frame.page {
             page.bytes();
             return Ok(());
         }
-        self.page = Some(Page::new(alloc)?);
+        self.frame.page = Some(Page::new(alloc)?);
         Ok(())
     }
 
@@ -53,7 +74,7 @@ impl LazyPage {
         requires { length self.now ≡ page_bytes }
         ensures { result.now ≡ self.now }
     {
-        match &self.page {
+        match &self.frame.page {
             Some(page) => page,
             None => unreachable!(),
         }
@@ -64,10 +85,7 @@ impl LazyPage {
         ensures* writes_back { sem 𝓛 (LendsPage self.entry result) }
         ensures value { result.now ≡ self.old }
     {
-        match &mut self.page {
-            Some(page) => page,
-            None => unreachable!(),
-        }
+        self.frame.page_mut()
     }
 
     /// A copy of `n` bytes of the page from an offset on.
@@ -75,7 +93,7 @@ impl LazyPage {
         requires { off + n ≤ page_bytes }
         ensures { IfOk result (λ bytes. bytes ≡ take n (drop off (page_of self.now))) }
     {
-        let Some(page) = &self.page else {
+        let Some(page) = &self.frame.page else {
             return Ok(Bytes::from_vec(vec![in alloc; 0u8; n as usize]?));
         };
         Ok(page.copy(alloc, off, n)?)
@@ -87,13 +105,13 @@ impl LazyPage {
         ensures ok { OnOk result (self.new ≡ splice (page_of self.old) off bytes.now) }
         ensures err { OnErr result (self.new ≡ self.old) }
     {
-        if let Some(page) = &mut self.page {
+        if let Some(page) = &mut self.frame.page {
             page.write(off, bytes);
             return Ok(());
         }
         let mut page = Page::new(alloc)?;
         page.write(off, bytes);
-        self.page = Some(page);
+        self.frame.page = Some(page);
         Ok(())
     }
 }

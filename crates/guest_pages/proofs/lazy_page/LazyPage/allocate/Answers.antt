@@ -3,7 +3,6 @@ use Rattle.std.specs.Prelude.{unwrap_or}
 use Rattle.guest_pages.specs.PageBytes.{page_of}
 use Rattle.guest_pages.proofs.PageLaws.{page_of_none, page_of-whole}
 use Rattle.guest_pages.proofs.lazy_page.LazyPage.allocate.Goals as goal
-use Rattle.guest_pages.proofs.lazy_page.LazyPage.allocate.Goals.{in-Some-1, in-None-1}
 
 pub returns-in-Some-clause-ok : goal.returns-in-Some-clause-ok
 returns-in-Some-clause-ok c =
@@ -13,5 +12,4 @@ returns-in-Some-clause-ok c =
 pub returns-clause-ok : goal.returns-clause-ok
 returns-clause-ok c =
     let none : c.args.self.now ≡ [] = sym c.self.view_is ∙ ap (λ o. unwrap_or o []) c.in_default.is in
-    let zeros = c.in_ok-new.ensures ∙ sym page_of_none ∙ ap page_of (sym none) in
-    elim c.match-self.branch [ in-Some-1 w ↦ w.self-is ∙ zeros | in-None-1 w ↦ w.self-is ∙ zeros ]
+    c.in_ok-new.ensures ∙ sym page_of_none ∙ ap page_of (sym none)

@@ -8,7 +8,7 @@ pub returns-in_default : goal.returns-in_default
 returns-in_default c =
     let none : c.args.self.now ≡ [] = sym c.self.view_is ∙ ap (λ o. unwrap_or o []) c.in_default.is in
     c.from_vec.ensures
-    ∙ c.in_ok-vec.ensures.items
+    ∙ c.in_ok-vec.ensures.items_if_clones_equal (λ y h. h)
     ∙ sym (zeros_read c.args.off c.args.n c.requires)
     ∙ ap (λ p. take c.args.n (drop c.args.off p)) (sym page_of_none ∙ ap page_of (sym none))
 

@@ -1,4 +1,4 @@
-use Rattle.std.proofs.Common.{◌∙◌, [], ap, sym, subst, arith, replicate, Some}
+use Rattle.std.proofs.Common.{◌≡◌, ◌∙◌, rules, [], ap, sym, subst, arith, replicate, Some}
 use Rattle.std.proofs.lemmas.List.{length-replicate}
 use Rattle.std.proofs.lemmas.List.Elements.{All-replicate}
 use Rattle.guest_pages.specs.Allocated.{shown}
@@ -17,4 +17,6 @@ invariant_of-result c =
     subst ArePages (sym (ap shown c.loop.invariant ∙ shown_fresh c.loop.counter)) pages
 
 pub returns : goal.returns
-returns c = ap shown c.loop.invariant ∙ shown_fresh c.loop.counter
+returns c =
+    let all : c.loop.counter ≡ c.args.count = search rules in
+    ap shown c.loop.invariant ∙ shown_fresh c.loop.counter ∙ ap (λ n. replicate n (Some zero_page)) all
