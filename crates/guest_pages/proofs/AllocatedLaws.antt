@@ -1,8 +1,9 @@
 -- Laws of pages that take their memory.
-use Rattle.std.proofs.Common.{◌≡◌, ℕ, zero, suc, ◌+◌, ◌≤◌, List, [], ◌∷◌, length, map, replicate, Option, Some, None, refl, sym, ap, subst, ◌∙◌, inl, inr, arith}
+use Rattle.std.proofs.Common.{◌≡◌, ℕ, zero, suc, ◌+◌, ◌<◌, ◌≤◌, List, [], ◌∷◌, ◌++◌, length, map, take, drop, replicate, Option, Some, None, refl, sym, ap, subst, ◌∙◌, inl, inr, arith}
 use Rattle.std.specs.Prelude.{◌&&◌, is_some, option_map, slice_set, slice_index_or}
 use Rattle.std.specs.List.{list_all, All}
 use Rattle.std.proofs.Math.ListN.{get_or-map}
+use Rattle.std.proofs.Math.Seq.{drop-cons}
 use Rattle.std.proofs.lemmas.List.{length-set, map-set}
 use Rattle.std.proofs.lemmas.List.Elements.{All-head, All-set, All-tail}
 use Rattle.argo_base.specs.Splice.{splice}
@@ -72,6 +73,24 @@ each_allocated (a ∷ as') [] n e each is = absurd each
 each_allocated (a ∷ as') (b ∷ bs) zero e each is =
     (subst (λ x. IsGrownPlace a (allocated x)) (sym is) (grown_place a b each.0), each.1)
 each_allocated (a ∷ as') (b ∷ bs) (suc n) e each is = (each.0, each_allocated as' bs n e each.1 is)
+
+walked : (row : List Lent) (k : ℕ) (e : Lent) → k < length row
+    → take k row ++ (e ∷ map allocated (drop (suc k) row)) ≡ take (suc k) (slice_set row k e) ++ map allocated (drop (suc k) (slice_set row k e))
+walked [] k e inside = absurd (omega (arith, inside))
+walked (x ∷ xs) zero e inside = refl
+walked (x ∷ xs) (suc k) e inside = ap (λ ys. x ∷ ys) (walked xs k e (omega (arith, inside)))
+
+-- a step of the walk in which each place takes its memory
+pub allocated_step : (init row : List Lent) (k : ℕ) (e e' : Lent) → k < length row → slice_index_or row k e ≡ e → e' ≡ allocated e
+    → map allocated init ≡ take k row ++ map allocated (drop k row)
+    → map allocated init ≡ take (k + 1) (slice_set row k e') ++ map allocated (drop (k + 1) (slice_set row k e'))
+allocated_step init row k e e' inside is new so =
+    let next : suc k ≡ k + 1 = omega arith in
+    so
+    ∙ ap (λ xs. take k row ++ map allocated xs) (drop-cons row k e inside ∙ ap (λ x. x ∷ drop (suc k) row) is)
+    ∙ ap (λ x. take k row ++ (x ∷ map allocated (drop (suc k) row))) (sym new)
+    ∙ walked row k e' inside
+    ∙ ap (λ n. take n (slice_set row k e') ++ map allocated (drop n (slice_set row k e'))) next
 
 -- pages that grew are seen as they were
 pub grown_seen : (pages pages' : List (Option (List ℕ))) → Each IsGrown pages pages' → shown pages' ≡ shown pages
