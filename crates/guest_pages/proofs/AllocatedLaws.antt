@@ -44,6 +44,12 @@ pub each_same : {A : Type 0} (R : A → A → Type 0) → ((x : A) → R x x) �
 each_same R same [] = tt
 each_same R same (x ∷ xs) = (same x, each_same R same xs)
 
+pub each_length : {A : Type 0} (R : A → A → Type 0) (xs ys : List A) → Each R xs ys → length ys ≡ length xs
+each_length R [] [] each = refl
+each_length R [] (y ∷ ys) each = absurd each
+each_length R (x ∷ xs) [] each = absurd each
+each_length R (x ∷ xs) (y ∷ ys) each = ap suc (each_length R xs ys each.1)
+
 pub each_set : {A : Type 0} (R : A → A → Type 0) (xs ys : List A) (n : ℕ) (x y : A) → Each R xs ys → R x y → Each R (slice_set xs n x) (slice_set ys n y)
 each_set R [] [] n x y each here = tt
 each_set R [] (b ∷ bs) n x y each here = absurd each
