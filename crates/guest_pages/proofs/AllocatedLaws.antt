@@ -126,12 +126,11 @@ swapped-shown pages [] = (refl, refl)
 swapped-shown pages (e ∷ es) =
     let set = map-set (option_map page_of) pages e.number e.page in
     let at = get_or-map (option_map page_of) pages e.number e.page in
-    let rest = swapped-shown (slice_set pages e.number e.page) es in
-    (
+    let rest = swapped-shown (slice_set pages e.number e.page) es in (
       rest.0 ∙ ap (λ x. (swapped_in x (map allocated es)).0) set,
       ap (λ p. place_of e.number p ∷ map allocated (swapped_in (slice_set pages e.number e.page) es).1) (sym at)
-      ∙ ap (λ xs. place_of e.number (slice_index_or (shown pages) e.number (option_map page_of e.page)) ∷ xs)
-      (rest.1 ∙ ap (λ x. (swapped_in x (map allocated es)).1) set),
+          ∙ ap (λ xs. place_of e.number (slice_index_or (shown pages) e.number (option_map page_of e.page)) ∷ xs)
+          (rest.1 ∙ ap (λ x. (swapped_in x (map allocated es)).1) set),
     )
 
 pub allocated_blanks : (ns : List ℕ) → map allocated (blanks ns) ≡ blanks ns

@@ -1,4 +1,7 @@
-use Rattle.std.proofs.Common.{◌∙◌, ap, sym, subst}
+use Rattle.std.proofs.Common.{◌∙◌, ap, sym, subst, Err}
+use Rattle.std.specs.Result.{result_err}
+use Rattle.std.proofs.lemmas.Option.{same_Some}
+use Rattle.guest_pages.specs.declared.lend_fault.LendFault.TheVariants as LendFault
 use Rattle.guest_pages.specs.Allocated.{IsGrown}
 use Rattle.guest_pages.specs.Pages.{can_lend, row_of, without}
 use Rattle.guest_pages.specs.PrivateInside.{ArePages}
@@ -53,7 +56,7 @@ returns-clause-pages c =
     λ fault.
     ap (λ pages. can_lend pages c.args.numbers.now) (sym c.self.view_is)
     ∙ could_not c.self.inside.slots.items c.args.numbers.now c.in_ok-places.places.items c.swap_in.new.row.items c.in_ok-places.ensures
-    c.swap_in.ensures.row (c.allocate.ensures.pages (c.in-Err.is ∙ fault))
+    c.swap_in.ensures.row (c.allocate.ensures.pages (c.in-Err.is ∙ ap Err (same_Some c.in-Err.fault LendFault.Pages (ap result_err fault))))
 
 pub returns-clause-err : goal.returns-clause-err
 returns-clause-err c =

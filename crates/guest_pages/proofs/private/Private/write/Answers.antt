@@ -1,5 +1,5 @@
 use Rattle.std.proofs.Common.{◌≡◌, ◌<◌, ◌∙◌, ap, sym, length, slice_set, Some, None, arith}
-use Rattle.std.proofs.lemmas.List.{get_or_default, length-map}
+use Rattle.std.proofs.lemmas.List.{get_or_default}
 use Rattle.guest_pages.specs.Allocated.{shown}
 use Rattle.guest_pages.specs.Pages.{page_at, with_written}
 use Rattle.guest_pages.proofs.AllocatedLaws.{pages_written, shown_written}
