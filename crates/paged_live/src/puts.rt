@@ -23,7 +23,8 @@ impl Live {
             (self.new ≡ effects.after self.old (acts.put self.old page off bytes.now)) }
         ensures err { OnErr result (self.new ≡ self.old) }
     {
-        if self.private.write(page, off, bytes)? {
+        let found = self.private.write(page, off, bytes)?;
+        if found {
             return Ok(Outcome::Done);
         }
         let Some(home) = home_at(self.homes.as_slice(), page) else {
