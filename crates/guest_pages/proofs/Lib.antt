@@ -1,3 +1,4 @@
+pub mod AllocatedLaws
 pub mod FlatLaws
 pub mod Lending
 pub mod PageLaws

@@ -5,7 +5,7 @@ use Rattle.std.specs.List.{All}
 use Rattle.std.proofs.Math.Seq.{map-set_same}
 use Rattle.std.proofs.lemmas.List.{get_or-map, length-map, map-set}
 use Rattle.std.proofs.lemmas.List.Elements.{All-map, All-set, All-weaker}
-use Rattle.guest_pages.specs.declared.page.Lent.{Lent}
+use Rattle.guest_pages.specs.declared.lazy_page.Lent.{Lent}
 use Rattle.guest_pages.specs.PageBytes.{HoldsPage}
 use Rattle.argo_base.specs.Numbers.{all_differ}
 use Rattle.guest_pages.specs.RowInside.{IsRow}

@@ -6,7 +6,7 @@ use Rattle.std.proofs.Math.Seq.{drop-cons}
 use Rattle.std.proofs.lemmas.Bool.{cases_lt, cases_Bool, eqb-true, eqb-false, and_parts, not-true, both_ways}
 use Rattle.std.proofs.lemmas.List.{length-set, set-set, set-get_or, set_past, get_or-set_same, get_or-set_other, get_or-take, take-take, take-set, drop-set, get_or_past}
 use Rattle.std.proofs.lemmas.List.Elements.{All-nil, All-cons, All-head, All-tail, All-set, All-weaker}
-use Rattle.guest_pages.specs.declared.page.Lent.{Lent}
+use Rattle.guest_pages.specs.declared.lazy_page.Lent.{Lent}
 use Rattle.argo_base.specs.Numbers.{has_number, all_differ}
 use Rattle.guest_pages.specs.PageBytes.{HoldsPage, IsWhole}
 use Rattle.guest_pages.specs.Pages.{page_at, can_lend, row_of, without, with_row}

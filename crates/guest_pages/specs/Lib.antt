@@ -1,4 +1,6 @@
+pub mod Allocated
 pub mod Lending
+pub mod LendingPage
 pub mod LendingRow
 pub mod PageBytes
 pub mod Pages

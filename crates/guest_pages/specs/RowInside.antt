@@ -1,7 +1,7 @@
 -- What always holds of a row.
 use Rattle.std.specs.Prelude.{List, map, IsTrue}
 use Rattle.std.specs.List.{All}
-use Rattle.guest_pages.specs.declared.page.Lent.{Lent}
+use Rattle.guest_pages.specs.declared.lazy_page.Lent.{Lent}
 use Rattle.argo_base.specs.Numbers.{all_differ}
 use Rattle.guest_pages.specs.PageBytes.{HoldsPage}
 

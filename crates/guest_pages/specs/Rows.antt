@@ -1,6 +1,6 @@
 -- The pages of a row, each with its number, one after another.
 use Rattle.std.specs.Prelude.{ℕ, List, [], map, flat_map, slice_set, slice_index_or, unwrap_or}
-use Rattle.guest_pages.specs.declared.page.Lent.{Lent}
+use Rattle.guest_pages.specs.declared.lazy_page.Lent.{Lent}
 
 -- a place of the row as it is seen: the number of its page and the page's bytes
 abbrev pub numbered : Lent → ℕ × List ℕ

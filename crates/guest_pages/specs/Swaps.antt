@@ -1,6 +1,6 @@
 -- Pages change places between a domain's private memory and a row.
 use Rattle.std.specs.Prelude.{ℕ, List, [], ◌∷◌, Option, map, slice_set, slice_index_or, None}
-use Rattle.guest_pages.specs.declared.page.Lent.{Lent}
+use Rattle.guest_pages.specs.declared.lazy_page.Lent.{Lent}
 
 -- places for pages of these numbers, with no page in them
 abbrev pub blanks : List ℕ → List Lent

@@ -4,6 +4,7 @@
 //! where it is not lent, and `PageRow`, the pages of a ring with their numbers. It stands on argo_base.
 #![tactic(auto)]
 
+mod lazy_page;
 mod lend_fault;
 mod page;
 mod page_row;

@@ -1,12 +1,12 @@
-//! One page, and a place of a row that may hold one.
-ghost use Rattle.std.specs.Prelude.{◌≡◌, ◌+◌, ◌≤◌, length, take, drop, IfOk, IsSome, Some};
+//! One page that has its memory.
+ghost use Rattle.std.specs.Prelude.{◌≡◌, ◌+◌, ◌≤◌, length, take, drop, IfOk};
 ghost use Rattle.std.specs.Borrow.{sem};
 ghost use Rattle.argo_base.specs.Limits.{page_bytes};
 ghost use Rattle.argo_base.specs.Splice.{splice};
-ghost use Rattle.guest_pages.specs.Lending.{LendsBytes, LendsPage};
+ghost use Rattle.guest_pages.specs.Lending.{LendsBytes};
 ghost use Rattle.guest_pages.specs.PageBytes.{zero_page};
 
-use argo_base::NoMemory;
+use argo_base::{Bytes, NoMemory};
 use std::alloc::Global;
 use std::marker::Model;
 
@@ -56,6 +56,17 @@ impl Page {
         &mut self.bytes
     }
 
+    /// A copy of `n` bytes of the page from an offset on.
+    pub(crate) fn copy(&self, alloc: Global, off: u32, n: u32) -> Result<Bytes, NoMemory>
+        requires { off + n ≤ page_bytes }
+        ensures bytes { IfOk result (λ bytes. bytes ≡ take n (drop off self.now)) }
+        ensures whole { length self.now ≡ page_bytes }
+    {
+        let (_, rest) = self.bytes().split_at(off as usize);
+        let (part, _) = rest.split_at(n as usize);
+        Ok(Bytes::copy_of(alloc, part)?)
+    }
+
     /// Copies bytes of the page from an offset on, as many as the buffer takes.
     pub(crate) fn read(&self, off: u32, buf: &mut [u8])
         requires { off + length buf.old ≤ page_bytes }
@@ -69,40 +80,11 @@ impl Page {
     /// Writes bytes into the page from an offset on.
     pub(crate) fn write(&mut self, off: u32, bytes: &[u8])
         requires { off + length bytes.now ≤ page_bytes }
-        ensures { self.new ≡ splice self.old off bytes.now }
+        ensures bytes { self.new ≡ splice self.old off bytes.now }
+        ensures whole { length self.old ≡ page_bytes }
     {
         let (_, rest) = self.bytes_mut().split_at_mut(off as usize);
         let (part, _) = rest.split_at_mut(bytes.len());
         part.copy_from_slice(bytes);
-    }
-}
-
-/// A place of a row: the number of a page, and the page where it stands there.
-#[derive(Debug, Drop)]
-pub(crate) struct Lent {
-    pub(crate) number: u64,
-    pub(crate) page: Option<Page>,
-}
-
-impl Lent {
-    pub(crate) fn page(&self) -> &Page
-        requires { IsSome self.now.page }
-        ensures { self.now.page ≡ Some result.now }
-    {
-        match &self.page {
-            Some(page) => page,
-            None => unreachable!(),
-        }
-    }
-
-    pub(crate) fn page_mut(&mut self) -> &mut Page
-        requires { IsSome self.old.page }
-        ensures* writes_back { sem 𝓛 (LendsPage self.entry result) }
-        ensures value { self.old.page ≡ Some result.now }
-    {
-        match &mut self.page {
-            Some(page) => page,
-            None => unreachable!(),
-        }
     }
 }

@@ -8,7 +8,7 @@ ghost use Rattle.guest_pages.specs.LendingRow.{LendsPageAt};
 ghost use Rattle.argo_base.specs.Numbers.{all_differ};
 ghost use Rattle.guest_pages.specs.Rows.{numbers_of, row_bytes, page_in, with_bytes};
 
-use crate::page::Lent;
+use crate::lazy_page::Lent;
 use std::marker::Model;
 
 /// Pages with their numbers, which all differ. Contracts see the list of the numbers, each with the page's bytes.
@@ -52,7 +52,7 @@ impl PageRow {
         ensures value { result.now ≡ (page_in self.now place).1 }
         ensures whole { length result.now ≡ page_bytes }
     {
-        self.places[place].page().bytes()
+        self.places[place].page().page().bytes()
     }
 
     /// The bytes of the page at a place, to be written. The number stays, and so do all other pages.
@@ -61,7 +61,7 @@ impl PageRow {
         ensures* writes_back { sem 𝓛 (LendsPageAt self.entry place result) }
         ensures value { result.now ≡ (page_in self.old place).1 }
     {
-        self.places[place].page_mut().bytes_mut()
+        self.places[place].page_mut().page_mut().bytes_mut()
     }
 
     /// Copies bytes of the page at a place from an offset on, as many as the buffer takes.
@@ -72,7 +72,7 @@ impl PageRow {
             ≡ take (length buf.old) (drop (page_bytes * place + off) (row_bytes self.now)) }
         ensures whole { length (row_bytes self.now) ≡ page_bytes * length self.now }
     {
-        self.places[place].page().read(off, buf);
+        self.places[place].page().page().read(off, buf);
     }
 
     /// Writes bytes into the page at a place from an offset on.
@@ -84,6 +84,6 @@ impl PageRow {
             ≡ splice (row_bytes self.old) (page_bytes * place + off) bytes.now }
         ensures whole { length (row_bytes self.old) ≡ page_bytes * length self.old }
     {
-        self.places[place].page_mut().write(off, bytes);
+        self.places[place].page_mut().page_mut().write(off, bytes);
     }
 }

@@ -5,8 +5,8 @@ ghost use Rattle.argo_base.specs.Limits.{page_bytes};
 ghost use Rattle.guest_pages.specs.PageBytes.{zero_page, IsWhole};
 ghost use Rattle.guest_pages.specs.Pages.{page_at, with_written, can_lend, row_of, without, with_row};
 
-use crate::page::Page;
-use crate::swaps::{blanks, is_full, swap_back, swap_in};
+use crate::lazy_page::LazyPage;
+use crate::swaps::{allocate, blanks, swap_back, swap_in};
 use crate::{LendFault, PageRow};
 use argo_base::{Bytes, NoMemory};
 use std::alloc::Global;
@@ -15,28 +15,29 @@ use std::marker::Model;
 /// The pages of a domain, by number. Contracts see a list: under each number the page's bytes, or none where it is lent.
 #[derive(Debug, Drop)]
 pub struct Private {
-    slots: Vec<Option<Page>>,
+    slots: Vec<Option<LazyPage>>,
 }
 
 impl Model for Private {
     ghost use Rattle.std.specs.Prelude.{ℕ, List, Option};
+    ghost use Rattle.guest_pages.specs.Allocated.{shown};
     ghost use Rattle.guest_pages.specs.PrivateInside.{ArePages};
 
     ghost Value = { List (Option (List ℕ)) };
 
-    ghost view = { λ p. p.slots.items };
+    ghost view = { λ p. shown p.slots.items };
 
-    ghost invariant = { λ p. ArePages p.slots.items };
+    ghost invariant = { λ p. ArePages (shown p.slots.items) };
 }
 
 impl Private {
-    /// Pages 0 to `count - 1`, all of zeros.
+    /// Pages 0 to `count - 1`, all of zeros. A page takes its memory when it is written first, or lent.
     pub fn new(alloc: Global, count: u32) -> Result<Private, NoMemory>
         ensures { IfOk result (λ p. p ≡ replicate count (Some zero_page)) }
     {
         let mut slots = Vec::with_capacity(alloc, count as usize)?;
         for _ in 0..count {
-            slots.push(Some(Page::new(alloc)?))?;
+            slots.push(Some(LazyPage::new()))?;
         }
         Ok(Private { slots })
     }
@@ -58,26 +59,27 @@ impl Private {
         let Some(Some(page)) = self.slots.get(page as usize) else {
             return Ok(None);
         };
-        let (_, rest) = page.bytes().split_at(off as usize);
-        let (part, _) = rest.split_at(n as usize);
-        Ok(Some(Bytes::copy_of(*self.slots.allocator(), part)?))
+        Ok(Some(page.copy(*self.slots.allocator(), off, n)?))
     }
 
-    /// Writes into a page from an offset on; false where the page is absent or lent. It takes no memory.
-    pub fn write(&mut self, page: u64, off: u32, bytes: &[u8]) -> bool
+    /// Writes into a page from an offset on; false where the page is absent or lent. The first write into a page takes
+    /// the page's memory.
+    pub fn write(&mut self, page: u64, off: u32, bytes: &[u8]) -> Result<bool, NoMemory>
         requires { off + length bytes.now ≤ page_bytes }
-        ensures found { result ≡ is_some (page_at self.old page) }
-        ensures written { self.new ≡ with_written self.old page off bytes.now }
+        ensures found { IfOk result (λ found. found ≡ is_some (page_at self.old page)) }
+        ensures written { OnOk result (self.new ≡ with_written self.old page off bytes.now) }
+        ensures err { OnErr result (self.new ≡ self.old) }
     {
         if page >= self.slots.len() as u64 {
-            return false;
+            return Ok(false);
         }
+        let alloc = *self.slots.allocator();
         let slot = &mut self.slots[page as usize];
         let Some(page) = slot else {
-            return false;
+            return Ok(false);
         };
-        page.write(off, bytes);
-        true
+        page.write(alloc, off, bytes)?;
+        Ok(true)
     }
 
     /// Hands out the pages of these numbers, in this order.
@@ -88,13 +90,14 @@ impl Private {
         ensures pages { result ≡ Err LendFault.Pages → IsFalse (can_lend self.old numbers.now) }
         ensures err { OnErr result (self.new ≡ self.old) }
     {
-        let mut places = blanks(*self.slots.allocator(), numbers)?;
+        let alloc = *self.slots.allocator();
+        let mut places = blanks(alloc, numbers)?;
         swap_in(&mut self.slots, &mut places);
-        if is_full(places.as_slice()) {
+        let Err(fault) = allocate(alloc, &mut places) else {
             return Ok(PageRow { places });
-        }
+        };
         swap_back(&mut self.slots, &mut places);
-        Err(LendFault::Pages)
+        Err(fault)
     }
 
     /// Takes a row back and hands out the pages of these numbers, which may be among those of the row. Where the pages
@@ -112,19 +115,20 @@ impl Private {
         ensures old_back { IfErr result (λ e. e.0 ≡ old) }
         ensures err { OnErr result (self.new ≡ self.old) }
     {
-        let mut places = match blanks(*self.slots.allocator(), numbers) {
+        let alloc = *self.slots.allocator();
+        let mut places = match blanks(alloc, numbers) {
             Ok(places) => places,
             Err(NoMemory) => return Err((old, LendFault::NoMemory)),
         };
         let PageRow { places: mut back } = old;
         swap_in(&mut self.slots, &mut back);
         swap_in(&mut self.slots, &mut places);
-        if is_full(places.as_slice()) {
+        let Err(fault) = allocate(alloc, &mut places) else {
             return Ok(PageRow { places });
-        }
+        };
         swap_back(&mut self.slots, &mut places);
         swap_back(&mut self.slots, &mut back);
-        Err((PageRow { places: back }, LendFault::Pages))
+        Err((PageRow { places: back }, fault))
     }
 
     /// Takes a row back: each of its pages whose number is one of the domain's stands here again, in place of a page that

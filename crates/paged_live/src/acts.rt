@@ -33,7 +33,7 @@ impl LiveDomain for Live {
     fn act(&mut self, alloc: Global, on: bool, action: Action) -> Result<Outcome, NoMemory> {
         match action {
             Action::Fetch { page, off, n } => self.fetch(alloc, page, off, n),
-            Action::Put { page, off, bytes } => Ok(self.put(page, off, bytes.as_slice())),
+            Action::Put { page, off, bytes } => self.put(page, off, bytes.as_slice()),
             Action::Unregister { port, partner } if on => {
                 Ok(self.unregister(RingKey { port, partner }))
             }

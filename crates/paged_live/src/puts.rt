@@ -1,5 +1,5 @@
 //! Puts into the pages of a domain.
-ghost use Rattle.std.specs.Prelude.{◌≡◌, ◌+◌, ◌*◌, ◌<◌, ◌≤◌, length};
+ghost use Rattle.std.specs.Prelude.{◌≡◌, ◌+◌, ◌*◌, ◌<◌, ◌≤◌, IfOk, OnOk, OnErr, length};
 ghost use Rattle.argo_base.specs.Limits.{page_bytes};
 ghost use Rattle.argo_model.specs.Rules.Act as acts;
 ghost use Rattle.argo_model.specs.Rules.Effects as effects;
@@ -9,28 +9,32 @@ ghost use Rattle.ring_core.specs.Puts.{put_in};
 
 use crate::home::home_at;
 use crate::live::Live;
-use argo_base::PAGE_BYTES;
+use argo_base::{NoMemory, PAGE_BYTES};
 use argo_model::Outcome;
 use ring_core::Ring;
 
 impl Live {
-    /// Puts bytes at an offset of a page. It takes no memory.
-    pub(crate) fn put(&mut self, page: u64, off: u32, bytes: &[u8]) -> Outcome
+    /// Puts bytes at an offset of a page. A page that stands in no ring takes its memory at its first put.
+    pub(crate) fn put(&mut self, page: u64, off: u32, bytes: &[u8]) -> Result<Outcome, NoMemory>
         requires { off + length bytes.now ≤ 4096 }
-        ensures outcome { result ≡ (acts.put self.old page off bytes.now).outcome }
-        ensures left { self.new ≡ effects.after self.old (acts.put self.old page off bytes.now) }
+        ensures outcome { IfOk result
+            (λ o. o ≡ (acts.put self.old page off bytes.now).outcome) }
+        ensures left { OnOk result
+            (self.new ≡ effects.after self.old (acts.put self.old page off bytes.now)) }
+        ensures err { OnErr result (self.new ≡ self.old) }
     {
-        if self.private.write(page, off, bytes) {
-            return Outcome::Done;
+        let found = self.private.write(page, off, bytes)?;
+        if found {
+            return Ok(Outcome::Done);
         }
         let Some(home) = home_at(self.homes.as_slice(), page) else {
-            return Outcome::Fault;
+            return Ok(Outcome::Fault);
         };
         let Some(ring) = self.rings.find_exact_mut(home.key) else {
-            return Outcome::Fault;
+            return Ok(Outcome::Fault);
         };
         put_into(ring, home.place, off, bytes);
-        Outcome::Done
+        Ok(Outcome::Done)
     }
 }
 

@@ -70,7 +70,7 @@ fn a_ring_takes_a_message_and_its_bytes_stay(rt: HostRuntime) -> Result<(), Fail
     assert_eq!(rt; live.next_ring(0), Some(KEY));
     let closed = live.closed_rings(alloc)?;
     assert_eq!(rt; closed.len(), 1);
-    assert!(rt; is_done(&live.put(1, 0, &[32, 0, 0, 0])));
+    assert!(rt; is_done(&live.put(1, 0, &[32, 0, 0, 0])?));
     let change = live.sweep(alloc, 0)?;
     assert_eq!(rt; change.signals.as_slice(), [SENDER].as_slice());
     assert_eq!(rt; live.noted(KEY).len(), 0);

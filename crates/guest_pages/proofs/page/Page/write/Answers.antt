@@ -6,8 +6,8 @@ use Rattle.guest_pages.specs.PageBytes.{page_of}
 use Rattle.guest_pages.proofs.PageLaws.{page_of-whole}
 use Rattle.guest_pages.proofs.page.Page.write.Goals as goal
 
-pub returns : goal.returns
-returns c =
+pub returns-clause-bytes : goal.returns-clause-bytes
+returns-clause-bytes c =
     let whole = c.bytes_mut.ensures.whole in
     let d : drop (length c.args.bytes.now) (drop c.args.off c.args.self.now) ≡ drop (c.args.off + length c.args.bytes.now) c.args.self.now =
     drop-drop (length c.args.bytes.now) c.args.off c.args.self.now in

@@ -22,6 +22,7 @@ returns c = (
     writes_back = tt;
     value =
         c.bytes_mut.ensures.value
+        ∙ c.page_mut-2.ensures.value
         ∙ ap (λ p. unwrap_or p []) (sym c.page_mut.ensures.value)
         ∙ ap (λ p. p.1)
         (sym (page_in-numbered c.self.inside.places.items c.args.self.now c.args.place c.index_mut.result.now c.self.view_is c.requires c.index_mut.ensures.value));

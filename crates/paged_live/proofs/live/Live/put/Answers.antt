@@ -16,24 +16,30 @@ pub invariant_of-self : goal.invariant_of-self
 invariant_of-self c =
     let i = c.self.inside in
     let x : Parts = record { private = i.private; homes = i.homes.items; flag = i.flag; next_serial = i.next_serial; rows = i.rings } in
-    let alone = alone_at (store_of x) c.args.page (sym c.write.ensures.found ∙ c.if-write.true) in
-    subst (λ p. IsParts (record x { private = p })) (sym c.write.ensures.written)
-    (written_parts x c.self.invariant c.args.page c.args.off c.args.bytes.now c.requires alone.bytes alone.is)
+    subst (λ p. IsParts (record x { private = p })) (sym c.in_err-found.ensures.err) c.self.invariant
 
-pub returns-then-write-clause-outcome : goal.returns-then-write-clause-outcome
-returns-then-write-clause-outcome c =
+pub invariant_of-self-then-found : goal.invariant_of-self-then-found
+invariant_of-self-then-found c =
     let i = c.self.inside in
     let x : Parts = record { private = i.private; homes = i.homes.items; flag = i.flag; next_serial = i.next_serial; rows = i.rings } in
-    let alone = alone_at (store_of x) c.args.page (sym c.write.ensures.found ∙ c.if-write.true) in
+    let alone = alone_at (store_of x) c.args.page (sym c.in_ok-found.ensures.found ∙ c.if-found.true) in
+    subst (λ p. IsParts (record x { private = p })) (sym c.in_ok-found.ensures.written)
+    (written_parts x c.self.invariant c.args.page c.args.off c.args.bytes.now c.requires alone.bytes alone.is)
+
+pub returns-then-found-clause-outcome : goal.returns-then-found-clause-outcome
+returns-then-found-clause-outcome c =
+    let i = c.self.inside in
+    let x : Parts = record { private = i.private; homes = i.homes.items; flag = i.flag; next_serial = i.next_serial; rows = i.rings } in
+    let alone = alone_at (store_of x) c.args.page (sym c.in_ok-found.ensures.found ∙ c.if-found.true) in
     done_written x c.self.invariant c.args.page c.args.off c.args.bytes.now alone.bytes alone.is
     ∙ ap (λ (l : Live). (acts.put l c.args.page c.args.off c.args.bytes.now).outcome) c.self.view_is
 
-pub returns-then-write-clause-left : goal.returns-then-write-clause-left
-returns-then-write-clause-left c =
+pub returns-then-found-clause-left : goal.returns-then-found-clause-left
+returns-then-found-clause-left c =
     let i = c.self.inside in
     let x : Parts = record { private = i.private; homes = i.homes.items; flag = i.flag; next_serial = i.next_serial; rows = i.rings } in
-    let alone = alone_at (store_of x) c.args.page (sym c.write.ensures.found ∙ c.if-write.true) in
-    ap (λ p. seen (record x { private = p })) c.write.ensures.written
+    let alone = alone_at (store_of x) c.args.page (sym c.in_ok-found.ensures.found ∙ c.if-found.true) in
+    ap (λ p. seen (record x { private = p })) c.in_ok-found.ensures.written
     ∙ written_seen x c.self.invariant c.args.page c.args.off c.args.bytes.now c.requires alone.bytes alone.is
     ∙ ap (λ (l : Live). after l (acts.put l c.args.page c.args.off c.args.bytes.now)) c.self.view_is
 
@@ -41,7 +47,7 @@ pub returns-in_default-clause-outcome : goal.returns-in_default-clause-outcome
 returns-in_default-clause-outcome c =
     let i = c.self.inside in
     let x : Parts = record { private = i.private; homes = i.homes.items; flag = i.flag; next_serial = i.next_serial; rows = i.rings } in
-    let none = none_of (page_at x.private c.args.page) (sym c.write.ensures.found ∙ c.if-write.false) in
+    let none = none_of (page_at x.private c.args.page) (sym c.in_ok-found.ensures.found ∙ c.if-found.false) in
     let lent = ap (λ hs. home_at hs c.args.page) (sym c.as_slice.ensures.value) ∙ sym c.home_at.ensures ∙ c.in_default.is in
     fault_absent (seen x) c.args.page c.args.off c.args.bytes.now (absent x c.self.invariant c.args.page none lent)
     ∙ ap (λ (l : Live). (acts.put l c.args.page c.args.off c.args.bytes.now).outcome) c.self.view_is
@@ -50,18 +56,26 @@ pub returns-in_default-clause-left : goal.returns-in_default-clause-left
 returns-in_default-clause-left c =
     let i = c.self.inside in
     let x : Parts = record { private = i.private; homes = i.homes.items; flag = i.flag; next_serial = i.next_serial; rows = i.rings } in
-    let none = none_of (page_at x.private c.args.page) (sym c.write.ensures.found ∙ c.if-write.false) in
+    let none = none_of (page_at x.private c.args.page) (sym c.in_ok-found.ensures.found ∙ c.if-found.false) in
     let lent = ap (λ hs. home_at hs c.args.page) (sym c.as_slice.ensures.value) ∙ sym c.home_at.ensures ∙ c.in_default.is in
-    let same = c.write.ensures.written ∙ unwritten x.private c.args.page c.args.off c.args.bytes.now none in
+    let same = c.in_ok-found.ensures.written ∙ unwritten x.private c.args.page c.args.off c.args.bytes.now none in
     ap (λ p. seen (record x { private = p })) same
     ∙ stays_absent (seen x) c.args.page c.args.off c.args.bytes.now (absent x c.self.invariant c.args.page none lent)
     ∙ ap (λ (l : Live). after l (acts.put l c.args.page c.args.off c.args.bytes.now)) c.self.view_is
+
+pub invariant_of-self-in_default-find_exact_mut : goal.invariant_of-self-in_default-find_exact_mut
+invariant_of-self-in_default-find_exact_mut c =
+    let i = c.self.inside in
+    let x : Parts = record { private = i.private; homes = i.homes.items; flag = i.flag; next_serial = i.next_serial; rows = i.rings } in
+    let none = none_of (page_at x.private c.args.page) (sym c.in_ok-found.ensures.found ∙ c.if-found.false) in
+    let lent = ap (λ hs. home_at hs c.args.page) (sym c.as_slice.ensures.value) ∙ sym c.home_at.ensures ∙ c.in-Some.is in
+    absurd (home_stands x c.self.invariant c.args.page c.in-Some.home lent (sym c.find_exact_mut.ensures.value ∙ ap option_copied_mut c.in_default-find_exact_mut.is))
 
 pub returns-in_default-find_exact_mut-clause-outcome : goal.returns-in_default-find_exact_mut-clause-outcome
 returns-in_default-find_exact_mut-clause-outcome c =
     let i = c.self.inside in
     let x : Parts = record { private = i.private; homes = i.homes.items; flag = i.flag; next_serial = i.next_serial; rows = i.rings } in
-    let none = none_of (page_at x.private c.args.page) (sym c.write.ensures.found ∙ c.if-write.false) in
+    let none = none_of (page_at x.private c.args.page) (sym c.in_ok-found.ensures.found ∙ c.if-found.false) in
     let lent = ap (λ hs. home_at hs c.args.page) (sym c.as_slice.ensures.value) ∙ sym c.home_at.ensures ∙ c.in-Some.is in
     absurd (home_stands x c.self.invariant c.args.page c.in-Some.home lent (sym c.find_exact_mut.ensures.value ∙ ap option_copied_mut c.in_default-find_exact_mut.is))
 
@@ -69,7 +83,7 @@ pub returns-in_default-find_exact_mut-clause-left : goal.returns-in_default-find
 returns-in_default-find_exact_mut-clause-left c =
     let i = c.self.inside in
     let x : Parts = record { private = i.private; homes = i.homes.items; flag = i.flag; next_serial = i.next_serial; rows = i.rings } in
-    let none = none_of (page_at x.private c.args.page) (sym c.write.ensures.found ∙ c.if-write.false) in
+    let none = none_of (page_at x.private c.args.page) (sym c.in_ok-found.ensures.found ∙ c.if-found.false) in
     let lent = ap (λ hs. home_at hs c.args.page) (sym c.as_slice.ensures.value) ∙ sym c.home_at.ensures ∙ c.in-Some.is in
     absurd (home_stands x c.self.invariant c.args.page c.in-Some.home lent (sym c.find_exact_mut.ensures.value ∙ ap option_copied_mut c.in_default-find_exact_mut.is))
 
@@ -77,7 +91,7 @@ pub put_into-requires-clause-inside : goal.put_into-requires-clause-inside
 put_into-requires-clause-inside c =
     let i = c.self.inside in
     let x : Parts = record { private = i.private; homes = i.homes.items; flag = i.flag; next_serial = i.next_serial; rows = i.rings } in
-    let none = none_of (page_at x.private c.args.page) (sym c.write.ensures.found ∙ c.if-write.false) in
+    let none = none_of (page_at x.private c.args.page) (sym c.in_ok-found.ensures.found ∙ c.if-found.false) in
     let lent = ap (λ hs. home_at hs c.args.page) (sym c.as_slice.ensures.value) ∙ sym c.home_at.ensures ∙ c.in-Some.is in
     let key = c.in-Some.home.key in
     let a = c.in-Some-find_exact_mut.ring.now in
@@ -89,8 +103,8 @@ pub invariant_of-self-2 : goal.invariant_of-self-2
 invariant_of-self-2 c =
     let i = c.self.inside in
     let x : Parts = record { private = i.private; homes = i.homes.items; flag = i.flag; next_serial = i.next_serial; rows = i.rings } in
-    let none = none_of (page_at x.private c.args.page) (sym c.write.ensures.found ∙ c.if-write.false) in
-    let same = c.write.ensures.written ∙ unwritten x.private c.args.page c.args.off c.args.bytes.now none in
+    let none = none_of (page_at x.private c.args.page) (sym c.in_ok-found.ensures.found ∙ c.if-found.false) in
+    let same = c.in_ok-found.ensures.written ∙ unwritten x.private c.args.page c.args.off c.args.bytes.now none in
     let key = c.in-Some.home.key in
     let a = c.in-Some-find_exact_mut.ring.now in
     let f = found_value x.rows key a (sym c.find_exact_mut.ensures.value ∙ ap option_copied_mut c.in-Some-find_exact_mut.is) in
@@ -101,7 +115,7 @@ pub returns-clause-outcome : goal.returns-clause-outcome
 returns-clause-outcome c =
     let i = c.self.inside in
     let x : Parts = record { private = i.private; homes = i.homes.items; flag = i.flag; next_serial = i.next_serial; rows = i.rings } in
-    let none = none_of (page_at x.private c.args.page) (sym c.write.ensures.found ∙ c.if-write.false) in
+    let none = none_of (page_at x.private c.args.page) (sym c.in_ok-found.ensures.found ∙ c.if-found.false) in
     let lent = ap (λ hs. home_at hs c.args.page) (sym c.as_slice.ensures.value) ∙ sym c.home_at.ensures ∙ c.in-Some.is in
     done_put x c.self.invariant c.args.page c.args.off c.args.bytes.now c.in-Some.home lent
     ∙ ap (λ (l : Live). (acts.put l c.args.page c.args.off c.args.bytes.now).outcome) c.self.view_is
@@ -110,9 +124,9 @@ pub returns-clause-left : goal.returns-clause-left
 returns-clause-left c =
     let i = c.self.inside in
     let x : Parts = record { private = i.private; homes = i.homes.items; flag = i.flag; next_serial = i.next_serial; rows = i.rings } in
-    let none = none_of (page_at x.private c.args.page) (sym c.write.ensures.found ∙ c.if-write.false) in
+    let none = none_of (page_at x.private c.args.page) (sym c.in_ok-found.ensures.found ∙ c.if-found.false) in
     let lent = ap (λ hs. home_at hs c.args.page) (sym c.as_slice.ensures.value) ∙ sym c.home_at.ensures ∙ c.in-Some.is in
-    let same = c.write.ensures.written ∙ unwritten x.private c.args.page c.args.off c.args.bytes.now none in
+    let same = c.in_ok-found.ensures.written ∙ unwritten x.private c.args.page c.args.off c.args.bytes.now none in
     let key = c.in-Some.home.key in
     let a = c.in-Some-find_exact_mut.ring.now in
     let f = found_value x.rows key a (sym c.find_exact_mut.ensures.value ∙ ap option_copied_mut c.in-Some-find_exact_mut.is) in
