@@ -1,0 +1,6 @@
+pub mod Closed
+pub mod Ends
+pub mod Passes
+pub mod Plans
+pub mod Possible
+pub mod Whole
