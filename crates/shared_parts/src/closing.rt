@@ -15,6 +15,7 @@ use std::alloc::Global;
 
 impl<A: Plan> Domains<A> {
     /// A row for each domain, by rising id, with a clear flag. Where memory runs out, the domains are lost.
+    #[tactic(auto, using(crate::proofs::Starts::rows_more))]
     pub fn into_closed(self, alloc: Global) -> Result<ClosedDomains, NoMemory>
         ensures { IfOk result (λ rows. AreRowsOf A.facts.domains rows) }
     {

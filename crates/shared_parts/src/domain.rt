@@ -1,6 +1,6 @@
 //! A domain of the world.
-ghost use Rattle.std.specs.Prelude.{◌≡◌, true, false, IfOk};
-ghost use Rattle.shared_parts.specs.Domains.{Standing};
+ghost use Rattle.std.specs.Prelude.{◌≡◌, IfOk};
+ghost use Rattle.shared_parts.specs.Domains.{begun, ended, fresh};
 
 use crate::live::Live;
 use argo_base::{DomId, NoMemory, RingId, RingKey};
@@ -37,10 +37,7 @@ impl Model for Domain {
 impl Domain {
     /// The domain of a line, as it starts.
     pub(crate) fn fresh(alloc: Global, line: &DomainLine) -> Result<Domain, NoMemory>
-        ensures on { IfOk result (λ x. x.on ≡ line.now.on) }
-        ensures pages { IfOk result (λ x. x.pages ≡ line.now.pages) }
-        ensures first { IfOk result (λ x. x.generation ≡ 1) }
-        ensures alive { IfOk result (λ x. x.alive ≡ true) }
+        ensures { IfOk result (λ x. x ≡ fresh line.now) }
     {
         Ok(Domain {
             on: line.on,
@@ -52,7 +49,7 @@ impl Domain {
 
     /// The domain is gone, with all that it has.
     pub(crate) fn end(&mut self)
-        ensures { self.new ≡ record self.old { alive = false } }
+        ensures { self.new ≡ ended self.old }
     {
         self.life = None;
     }
@@ -60,11 +57,11 @@ impl Domain {
     /// The domain is alive in its next generation, with this. The count of generations stands still at its last number, which no script
     /// reaches.
     pub(crate) fn begin_anew(&mut self, live: Live)
-        ensures on { self.new.on ≡ self.old.on }
-        ensures pages { self.new.pages ≡ self.old.pages }
-        ensures alive { self.new.alive ≡ true }
+        ensures { self.new ≡ begun self.old }
     {
-        self.generation = self.generation.saturating_add(1);
+        if self.generation < u32::MAX {
+            self.generation += 1;
+        }
         self.life = Some(live);
     }
 
@@ -91,11 +88,8 @@ impl Domain {
     pub(crate) fn forget(&mut self, key: RingKey, dom: DomId)
         ensures { self.new ≡ self.old }
     {
-        let Some(live) = &mut self.life else {
-            return;
-        };
-        if let Some(ring) = live.rings.get_mut().ring_mut(key) {
-            ring.forget(dom);
+        if let Some(live) = &mut self.life {
+            live.rings.get_mut().forget(key, dom);
         }
     }
 

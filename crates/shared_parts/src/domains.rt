@@ -1,9 +1,9 @@
 //! The domains of the world, as whoever has their lock finds them.
-ghost use Rattle.std.specs.Prelude.{◌≡◌, IsTrue, IfSome, IfNone};
+ghost use Rattle.std.specs.Prelude.{◌≡◌, IsTrue, IfOk, IfSome, IfNone};
 ghost use Rattle.argo_model.specs.declared.scripts.Actor.TheVariants.{Vcpu};
-ghost use Rattle.argo_model.specs.Rules.Possible.{facts_of, may_be_away, may_be_gone};
+ghost use Rattle.argo_model.specs.Rules.Possible.{facts_of, is_destroyed, may_be_away, may_be_gone};
 ghost use Rattle.argo_model.specs.Runs.Script.{has_domain};
-ghost use Rattle.shared_parts.specs.Domains.{IsParty};
+ghost use Rattle.shared_parts.specs.Domains.{IsParty, fresh_all};
 
 use crate::domain::Domain;
 use crate::party::Party;
@@ -34,6 +34,7 @@ impl<A: Plan> Model for Domains<A> {
 
 impl<A: Plan> Domains<A> {
     /// Every domain of the script, alive with generation 1.
+    #[tactic(auto, using(crate::proofs::Starts::start_fits))]
     pub fn new(alloc: Global, scripts: &Scripts) -> Result<Domains<A>, NoMemory>
         requires { A.facts ≡ facts_of scripts.now }
     {
@@ -44,9 +45,12 @@ impl<A: Plan> Domains<A> {
     }
 
     /// A domain, where it is alive.
+    #[tactic(auto, using(crate::proofs::Standings::away_none, crate::proofs::Standings::away_gone, crate::proofs::Standings::found_party, crate::proofs::Standings::found_first))]
     pub fn party(&self, dom: DomId) -> Option<Party<'_>>
         ensures id { IfSome result (λ p. p.id ≡ dom) }
         ensures party { IfSome result (λ p. IsParty A.facts dom p.on p.pages) }
+        ensures first { IfSome result
+            (λ p. (p.generation ≡ 1 → ⊥) → IsTrue (is_destroyed A.facts dom)) }
         ensures away { IfNone result (IsTrue (may_be_away A.facts dom)) }
     {
         let domain = self.domains.get(&dom)?;
@@ -83,7 +87,9 @@ impl<A: Plan> Domains<A> {
 fn fresh_domains(
     alloc: Global,
     lines: &[DomainLine],
-) -> Result<BTreeMap<DomId, Domain>, NoMemory> {
+) -> Result<BTreeMap<DomId, Domain>, NoMemory>
+    ensures { IfOk result (λ m. m.entries ≡ fresh_all lines.now) }
+{
     let mut domains = BTreeMap::new(alloc);
     for line in lines {
         domains.insert(line.id, Domain::fresh(alloc, line)?)?;

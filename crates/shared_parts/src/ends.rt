@@ -3,7 +3,9 @@ ghost use Rattle.std.specs.Prelude.{◌≡◌, ◌⊎◌, false, Err, IsTrue, Is
 ghost use Rattle.argo_base.specs.declared.errno.Errno.TheVariants.{Srch, Exist};
 ghost use Rattle.argo_model.specs.Rules.Possible.{is_destroyed};
 ghost use Rattle.argo_model.specs.Runs.Script.{has_domain};
+ghost use Rattle.shared_parts.specs.Domains.{begun, change_domain, ended};
 
+use crate::domain::Domain;
 use crate::domains::Domains;
 use crate::live::Live;
 use crate::plan::Plan;
@@ -11,8 +13,9 @@ use argo_base::{DomId, Errno, NoMemory, RingId};
 use pending_list::Notices;
 use ring_table::MOST_ROWS;
 use std::alloc::Global;
+use std::collections::BTreeMap;
 
-#[tactic(auto, using(std::proofs::lemmas::Map::Steps::set_value_same))]
+#[tactic(auto, using(std::proofs::lemmas::Map::Steps::set_value_same, crate::proofs::Standings::end_keeps, crate::proofs::Standings::begin_keeps, crate::proofs::Standings::none_unknown, crate::proofs::Standings::gone_destroyed))]
 impl<A: Plan> Domains<A> {
     /// Ends the rings of a domain, the rings that others have for it alone, and its notices. It takes no memory.
     pub fn reset(&mut self, dom: DomId) {
@@ -48,18 +51,14 @@ impl<A: Plan> Domains<A> {
     pub fn begin_anew(&mut self, dom: DomId, live: Live)
         requires { IsTrue (is_destroyed A.facts dom) }
     {
-        if let Some(domain) = self.domains.get_mut(&dom) {
-            domain.begin_anew(live);
-        }
+        begin_in(&mut self.domains, dom, live);
     }
 
     // One domain is gone, with all that it has.
     fn end_one(&mut self, dom: DomId)
         requires { IsTrue (is_destroyed A.facts dom) }
     {
-        if let Some(domain) = self.domains.get_mut(&dom) {
-            domain.end();
-        }
+        end_in(&mut self.domains, dom);
     }
 
     // Ends each ring of a domain.
@@ -135,15 +134,15 @@ impl<A: Plan> Domains<A> {
     // Takes a ring that has ended off each list that names it.
     fn unlist(&mut self, id: RingId, notices: &Notices) {
         if id.partner.is_any() {
-            self.drop_wilds(id, notices);
+            self.drop_wilds(&id, notices);
         } else {
             self.drop_send(id);
         }
     }
 
-    fn drop_wilds(&mut self, id: RingId, notices: &Notices) {
-        for notice in notices.as_slice() {
-            self.drop_wild(notice.0, id);
+    fn drop_wilds(&mut self, id: &RingId, notices: &Notices) {
+        for (dom, _) in notices.as_slice() {
+            self.drop_wild(*dom, id);
         }
     }
 
@@ -153,9 +152,9 @@ impl<A: Plan> Domains<A> {
         }
     }
 
-    fn drop_wild(&mut self, dom: DomId, id: RingId) {
+    fn drop_wild(&mut self, dom: DomId, id: &RingId) {
         if let Some(domain) = self.domains.get_mut(&dom) {
-            domain.drop_wild(id);
+            domain.drop_wild(*id);
         }
     }
 
@@ -164,5 +163,23 @@ impl<A: Plan> Domains<A> {
         if let Some(owner) = self.domains.get_mut(&id.owner) {
             owner.forget(id.key(), dom);
         }
+    }
+}
+
+// One domain is gone, with all that it has.
+fn end_in(domains: &mut BTreeMap<DomId, Domain>, dom: DomId)
+    ensures { domains.new.entries ≡ change_domain domains.old.entries dom ended }
+{
+    if let Some(domain) = domains.get_mut(&dom) {
+        domain.end();
+    }
+}
+
+// One domain is alive in its next generation, with this.
+fn begin_in(domains: &mut BTreeMap<DomId, Domain>, dom: DomId, live: Live)
+    ensures { domains.new.entries ≡ change_domain domains.old.entries dom begun }
+{
+    if let Some(domain) = domains.get_mut(&dom) {
+        domain.begin_anew(live);
     }
 }

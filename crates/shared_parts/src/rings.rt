@@ -98,7 +98,7 @@ impl Rings {
         requires legal { IsTrue (is_legal len) }
         requires pages { length row ≡ page_count len }
     {
-        if self.has_ring(id.key()) {
+        if self.table.find_exact(id.key()).is_some() {
             return Err(row);
         }
         let word = tx_word(&row);
@@ -149,6 +149,13 @@ impl Rings {
         leave(&mut self.homes, &row);
         private.give_back(row);
         notices
+    }
+
+    /// Takes the notice of a domain away from a ring.
+    pub(crate) fn forget(&mut self, key: RingKey, dom: DomId) {
+        if let Some(ring) = self.ring_mut(key) {
+            ring.forget(dom);
+        }
     }
 
     // Notes where the pages of a ring stand.
