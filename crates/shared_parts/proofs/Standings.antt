@@ -52,6 +52,7 @@ module _ (f : Facts) (d : ℕ) (change : Standing → Standing) (keeps : (x : St
     here x found false is =
         let apart : d ≢ q = grind (arith, nat_tests) in
         subst (MayBeFound f q) (sym (get_set_other d (change x) q xs apart)) (are q)
+
     by : (o : Option Standing) → lookup (is_at (nat_cmp d)) xs ≡ o → MayBeFound f q (lookup (is_at (nat_cmp q)) (change_found xs d change o))
     by None found = are q
     by (Some x) found = here x found (q == d) refl

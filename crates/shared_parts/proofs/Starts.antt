@@ -37,6 +37,7 @@ module _ (k : ℕ) (w : Standing) (d : ℕ) where
     past true false apart o = refl
     past false true apart o = refl
     past false false apart o = refl
+
     by : (o : Ordering) → nat_cmp k e.0 ≡ o → lookup (is_at (nat_cmp d)) (insert_entry nat_cmp es k w) ≡ cond (k == d) (Some w) (lookup (is_at (nat_cmp d)) es)
         → lookup (is_at (nat_cmp d)) (match_ordering o ((k, w) ∷ e ∷ es) ((e.0, w) ∷ es) (e ∷ insert_entry nat_cmp es k w))
         ≡ cond (k == d) (Some w) (cond (is_at (nat_cmp d) e.0) (Some e.1) (lookup (is_at (nat_cmp d)) es))
@@ -129,7 +130,7 @@ distinct_of s lawful =
 pub start_fits : (f : Facts) (s : Script) → f ≡ facts_of s → IsTrue (is_lawful s) → AreOf f (fresh_all s.domains)
 start_fits f s is lawful =
     subst (λ g. AreOf g (fresh_all s.domains)) (sym is) (λ d.
-        subst (MayBeFound (facts_of s) d) (sym (all_found s.domains [] d)) (lines_fit (facts_of s).destroyed d s.domains (distinct_of s lawful)))
+    subst (MayBeFound (facts_of s) d) (sym (all_found s.domains [] d)) (lines_fit (facts_of s).destroyed d s.domains (distinct_of s lawful)))
 
 -- ---- a row a domain
 

@@ -32,7 +32,9 @@ fn domain_of(alloc: Global, id: DomId, domain: Domain) -> Result<ClosedDomain, N
     ensures { IfOk result (λ x. x.id ≡ id) }
 {
     let Domain {
-        generation, life, ..
+        generation,
+        life,
+        ..
     } = domain;
     let mut closed = ClosedDomain {
         id,
@@ -53,11 +55,7 @@ fn domain_of(alloc: Global, id: DomId, domain: Domain) -> Result<ClosedDomain, N
 }
 
 // The rings by rising key. Their pages become private again.
-fn rings_of(
-    alloc: Global,
-    rings: Rings,
-    private: &mut Private,
-) -> Result<ClosedRings, NoMemory> {
+fn rings_of(alloc: Global, rings: Rings, private: &mut Private) -> Result<ClosedRings, NoMemory> {
     let mut rings = rings;
     let mut closed = ClosedRings::new(alloc);
     for _ in 0..rings.count() {

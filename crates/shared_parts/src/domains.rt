@@ -1,9 +1,11 @@
 //! The domains of the world, as whoever has their lock finds them.
-ghost use Rattle.std.specs.Prelude.{◌≡◌, IsTrue, IfOk, IfSome, IfNone};
+ghost use Rattle.std.specs.Prelude.{◌≡◌, IsTrue, OnOk, IfOk, IfSome, IfNone};
+ghost use Rattle.std.specs.Ordering.{nat_cmp};
+ghost use Rattle.std.specs.BTreeMap.{insert_entry};
 ghost use Rattle.argo_model.specs.declared.scripts.Actor.TheVariants.{Vcpu};
 ghost use Rattle.argo_model.specs.Rules.Possible.{facts_of, is_destroyed, may_be_away, may_be_gone};
 ghost use Rattle.argo_model.specs.Runs.Script.{has_domain};
-ghost use Rattle.shared_parts.specs.Domains.{IsParty, fresh_all};
+ghost use Rattle.shared_parts.specs.Domains.{IsParty, fresh, fresh_all};
 
 use crate::domain::Domain;
 use crate::party::Party;
@@ -84,15 +86,26 @@ impl<A: Plan> Domains<A> {
 }
 
 // The domains of these lines, as they start.
-fn fresh_domains(
-    alloc: Global,
-    lines: &[DomainLine],
-) -> Result<BTreeMap<DomId, Domain>, NoMemory>
+fn fresh_domains(alloc: Global, lines: &[DomainLine]) -> Result<BTreeMap<DomId, Domain>, NoMemory>
     ensures { IfOk result (λ m. m.entries ≡ fresh_all lines.now) }
 {
     let mut domains = BTreeMap::new(alloc);
     for line in lines {
-        domains.insert(line.id, Domain::fresh(alloc, line)?)?;
+        put_fresh(alloc, &mut domains, line)?;
     }
     Ok(domains)
+}
+
+// The domain of a line, as it starts, is put in under its id.
+fn put_fresh(
+    alloc: Global,
+    domains: &mut BTreeMap<DomId, Domain>,
+    line: &DomainLine,
+) -> Result<(), NoMemory>
+    ensures { OnOk result
+        (domains.new.entries ≡ insert_entry nat_cmp domains.old.entries line.now.id (fresh line.now)) }
+{
+    let domain = Domain::fresh(alloc, line)?;
+    domains.insert(line.id, domain)?;
+    Ok(())
 }
