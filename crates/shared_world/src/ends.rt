@@ -1,6 +1,6 @@
 //! Acts on whole domains, under the lock of all of them: no other lock that lies in them is taken.
-ghost use Rattle.std.specs.Prelude.{◌≡◌, ◌<◌, [], ◌∷◌, IsTrue, IfOk, OnErr};
-ghost use Rattle.argo_model.specs.declared.action.Outcome.TheVariants.{Done};
+ghost use Rattle.std.specs.Prelude.{◌≡◌, ◌<◌, [], ◌∷◌, IsTrue, IfOk, IfErr, OnErr};
+ghost use Rattle.argo_model.specs.declared.action.Outcome.TheVariants.{Done, Refused};
 ghost use Rattle.argo_model.specs.Rules.Outcomes.{is_outcome_of};
 ghost use Rattle.argo_model.specs.Rules.Possible.{is_destroyed, is_possible, may_be_gone};
 ghost use Rattle.argo_model.specs.Runs.Script.{is_known_actor};
@@ -17,6 +17,7 @@ use argo_base::{DomId, Errno, NoMemory};
 use argo_board::{Board, FlagChange};
 use argo_model::{Actor, Outcome};
 use shared_parts::{Domains, Live, Plan};
+use std::alloc::Global;
 use std::sync::Wait;
 use std::sync::ledger::Ledger;
 
@@ -39,6 +40,7 @@ enum Turn {
     Created(DomId, Live),
 }
 
+#[tactic(auto, using(crate::proofs::Ranks::is_last, crate::proofs::Ranks::given_back))]
 impl<A: Plan, B: Ledger, C: Ledger, P: Pause> World<A, B, C, P> {
     /// Performs an act on a whole domain.
     pub(crate) fn end<R: Wait>(
@@ -83,17 +85,7 @@ impl<A: Plan, B: Ledger, C: Ledger, P: Pause> World<A, B, C, P> {
         ensures pass { IfOk result (λ o. pass.new ≡ stepped pass.old o) }
         ensures err { OnErr result (pass.new ≡ pass.old) }
     {
-        let turn = match end {
-            End::Destroy(dom) if domains.party(dom).is_none() => Err(Errno::Srch),
-            End::Destroy(dom) => Ok(Turn::Destroyed(dom)),
-            End::Reset(dom) if domains.party(dom).is_none() => Err(Errno::Srch),
-            End::Reset(dom) => Ok(Turn::Reset(dom)),
-            End::Create(dom) => match domains.next_life(self.alloc, dom)? {
-                Ok(live) => Ok(Turn::Created(dom, live)),
-                Err(error) => Err(error),
-            },
-        };
-        match turn {
+        match turn_of(domains, self.alloc, end)? {
             Ok(turn) => self.end_noted(rt, pass, domains, turn),
             Err(error) => self.note(rt, pass, Outcome::Refused(error)),
         }
@@ -129,6 +121,39 @@ fn is_gone<A: Plan>(domains: &Domains<A>, actor: Actor) -> bool
     match actor {
         Actor::Vcpu(dom, generation) => domains.caller(dom, generation).is_none(),
         Actor::Control => false,
+    }
+}
+
+// What an act does to its domain, or why it is refused.
+fn turn_of<A: Plan>(
+    domains: &Domains<A>,
+    alloc: Global,
+    end: End,
+) -> Result<Result<Turn, Errno>, NoMemory>
+    requires { IsTrue (may_end A.facts (the_action end)) }
+    ensures turns { IfOk result (λ r. IfOk r (λ turn. MayTurn A.facts turn)) }
+    ensures done { IfOk result
+        (λ r. IfOk r (λ _. IsTrue (is_outcome_of (the_action end) Done))) }
+    ensures refused { IfOk result
+        (λ r. IfErr r (λ e. IsTrue (is_outcome_of (the_action end) (Refused e)))) }
+{
+    match end {
+        End::Destroy(dom) => {
+            if domains.party(dom).is_none() {
+                return Ok(Err(Errno::Srch));
+            }
+            Ok(Ok(Turn::Destroyed(dom)))
+        }
+        End::Reset(dom) => {
+            if domains.party(dom).is_none() {
+                return Ok(Err(Errno::Srch));
+            }
+            Ok(Ok(Turn::Reset(dom)))
+        }
+        End::Create(dom) => match domains.next_life(alloc, dom)? {
+            Ok(live) => Ok(Ok(Turn::Created(dom, live))),
+            Err(error) => Ok(Err(error)),
+        },
     }
 }
 

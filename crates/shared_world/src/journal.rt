@@ -78,6 +78,7 @@ fn looked<A: Ledger, B: Ledger, C: Ledger>(
     ))
 }
 
+#[tactic(auto, using(crate::proofs::Ranks::is_last, crate::proofs::Ranks::given_back))]
 impl<A: Plan, B: Ledger, C: Ledger, P: Pause> World<A, B, C, P> {
     /// Notes a step with this outcome, which changes no flag. Where memory runs out there is no step.
     pub(crate) fn note<R: Wait>(

@@ -14,6 +14,7 @@ use shared_parts::{Domains, Party, Plan};
 use std::sync::Wait;
 use std::sync::ledger::Ledger;
 
+#[tactic(auto, using(crate::proofs::Ranks::is_last, crate::proofs::Ranks::given_back))]
 impl<A: Plan, B: Ledger, C: Ledger, P: Pause> World<A, B, C, P> {
     /// Puts a ring into the list of its single partner. A wildcard ring has none.
     pub(crate) fn list_ring<R: Wait>(
@@ -134,7 +135,7 @@ impl<A: Plan, B: Ledger, C: Ledger, P: Pause> World<A, B, C, P> {
         ensures { pass.new ≡ pass.old }
     {
         if id.partner.is_any() {
-            self.unlist_doms(rt, pass, domains, id, ended);
+            self.unlist_doms(rt, pass, domains, &id, ended);
         }
     }
 
@@ -144,7 +145,7 @@ impl<A: Plan, B: Ledger, C: Ledger, P: Pause> World<A, B, C, P> {
         rt: &R,
         pass: &mut WorldPass<A, B, C>,
         domains: &Domains<A>,
-        id: RingId,
+        id: &RingId,
         doms: &[DomId],
     )
         requires { IsAboveAll 5 pass.old.held }
@@ -161,7 +162,7 @@ impl<A: Plan, B: Ledger, C: Ledger, P: Pause> World<A, B, C, P> {
         rt: &R,
         pass: &mut WorldPass<A, B, C>,
         domains: &Domains<A>,
-        id: RingId,
+        id: &RingId,
         dom: DomId,
     )
         requires { IsAboveAll 5 pass.old.held }
@@ -171,7 +172,7 @@ impl<A: Plan, B: Ledger, C: Ledger, P: Pause> World<A, B, C, P> {
             return;
         };
         let mut wilds = party.live.wilds.lock(rt, &mut pass.held);
-        wilds.value_mut().remove(id);
+        wilds.value_mut().remove(*id);
         wilds.release(&mut pass.held);
     }
 
@@ -188,7 +189,7 @@ impl<A: Plan, B: Ledger, C: Ledger, P: Pause> World<A, B, C, P> {
         ensures { pass.new ≡ pass.old }
     {
         if id.partner.is_any() {
-            self.unlist_notices(rt, pass, domains, id, notices);
+            self.unlist_notices(rt, pass, domains, &id, notices);
         } else {
             self.unlist_ring(rt, pass, domains, id);
         }
@@ -200,7 +201,7 @@ impl<A: Plan, B: Ledger, C: Ledger, P: Pause> World<A, B, C, P> {
         rt: &R,
         pass: &mut WorldPass<A, B, C>,
         domains: &Domains<A>,
-        id: RingId,
+        id: &RingId,
         notices: &Notices,
     )
         requires { IsAboveAll 5 pass.old.held }

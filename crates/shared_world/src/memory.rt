@@ -31,6 +31,7 @@ pub(crate) struct Writing<'a> {
     pub(crate) bytes: &'a [u8],
 }
 
+#[tactic(auto, using(crate::proofs::Ranks::is_last, crate::proofs::Ranks::given_back))]
 impl<A: Plan, B: Ledger, C: Ledger, P: Pause> World<A, B, C, P> {
     /// Fetches a piece of the caller's memory, from the ring that its page stands in or from the private pages.
     pub(crate) fn fetch<R: Wait>(
@@ -212,8 +213,8 @@ fn read_private(private: &Private, from: Piece) -> Result<Outcome, NoMemory>
     ensures { IfOk result (λ o. IsTrue (is_fetched from.n o)) }
 {
     match private.read(from.page, from.off, from.n)? {
-        Some(bytes) => Ok(Outcome::Bytes(bytes)),
-        None => Ok(Outcome::Fault),
+        Some(bytes) if bytes.as_slice().len() == from.n as usize => Ok(Outcome::Bytes(bytes)),
+        _ => Ok(Outcome::Fault),
     }
 }
 

@@ -25,6 +25,7 @@ use shared_parts::{Domains, Party, Plan, Rings};
 use std::sync::Wait;
 use std::sync::ledger::Ledger;
 
+#[tactic(auto, using(crate::proofs::Ranks::is_last, crate::proofs::Ranks::given_back))]
 impl<A: Plan, B: Ledger, C: Ledger, P: Pause> World<A, B, C, P> {
     /// A caller registers a ring. A new one is put into its partner's list before it is made.
     pub(crate) fn register<R: Wait>(

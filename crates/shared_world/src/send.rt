@@ -42,6 +42,7 @@ pub(crate) struct Asked {
     pub(crate) need: u32,
 }
 
+#[tactic(auto, using(crate::proofs::Ranks::is_last, crate::proofs::Ranks::given_back))]
 impl<A: Plan, B: Ledger, C: Ledger, P: Pause> World<A, B, C, P> {
     /// A caller sends to a port of a domain.
     pub(crate) fn deliver<R: Wait>(

@@ -23,6 +23,7 @@ use shared_parts::{Domains, Party, Plan};
 use std::sync::Wait;
 use std::sync::ledger::Ledger;
 
+#[tactic(auto, using(crate::proofs::Ranks::is_last, crate::proofs::Ranks::given_back))]
 impl<A: Plan, B: Ledger, C: Ledger, P: Pause> World<A, B, C, P> {
     /// A caller sweeps its ring with the least serial above `after`.
     pub(crate) fn sweep<R: Wait>(

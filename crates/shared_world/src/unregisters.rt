@@ -1,5 +1,5 @@
 //! A domain takes a ring of its own away.
-ghost use Rattle.std.specs.Prelude.{◌≡◌, ◌<◌, [], ◌∷◌, IsTrue, IfOk, OnErr};
+ghost use Rattle.std.specs.Prelude.{◌≡◌, ◌<◌, [], ◌∷◌, IsTrue, IfOk, IfSome, IfNone, OnErr};
 ghost use Rattle.argo_model.specs.declared.action.Action.TheVariants.{Unregister};
 ghost use Rattle.argo_model.specs.declared.action.Outcome.TheVariants.{Done};
 ghost use Rattle.argo_model.specs.declared.scripts.Actor.TheVariants.{Vcpu};
@@ -22,6 +22,7 @@ use shared_parts::{Domains, Party, Plan, Rings};
 use std::sync::Wait;
 use std::sync::ledger::Ledger;
 
+#[tactic(auto, using(crate::proofs::Ranks::is_last, crate::proofs::Ranks::given_back))]
 impl<A: Plan, B: Ledger, C: Ledger, P: Pause> World<A, B, C, P> {
     /// A caller takes its ring of this key away, and with it its names in the lists of others.
     pub(crate) fn unregister<R: Wait>(
@@ -50,23 +51,20 @@ impl<A: Plan, B: Ledger, C: Ledger, P: Pause> World<A, B, C, P> {
             partner: key.partner,
         };
         let mut part = caller.live.rings.write(rt, &mut pass.held);
-        let rings = part.value_mut();
-        let outcome = if rings.has_ring(key) {
-            match self.end_ring(rt, pass, &caller.live.private, rings, key) {
-                Ok(notices) => {
-                    self.unlist_all(rt, pass, domains, id, &notices);
-                    Ok(Outcome::Done)
-                }
-                Err(refused) => Err(refused),
+        let ended = self.end_ring(rt, pass, &caller.live.private, part.value_mut(), key);
+        let outcome = match ended {
+            Ok(Some(notices)) => {
+                self.unlist_all(rt, pass, domains, id, &notices);
+                Ok(Outcome::Done)
             }
-        } else {
-            self.note(rt, pass, Outcome::Refused(Errno::NoEnt))
+            Ok(None) => self.note(rt, pass, Outcome::Refused(Errno::NoEnt)),
+            Err(refused) => Err(refused),
         };
         part.release(&mut pass.held);
         outcome
     }
 
-    // Ends a ring, whose pages become private again.
+    // Ends a ring, whose pages become private again. Where there is none, there is no step.
     fn end_ring<R: Wait>(
         &self,
         rt: &R,
@@ -74,18 +72,22 @@ impl<A: Plan, B: Ledger, C: Ledger, P: Pause> World<A, B, C, P> {
         private: &Gate<Private, 6>,
         rings: &mut Rings,
         key: RingKey,
-    ) -> Result<Notices, NoMemory>
+    ) -> Result<Option<Notices>, NoMemory>
         requires held { pass.old.held ≡ 1 ∷ 2 ∷ [] }
         requires few { pass.old.tally.steps < most_steps }
-        ensures pass { IfOk result (λ _. pass.new ≡ stepped pass.old Done) }
+        ensures pass { IfOk result (λ x. IfSome x (λ _. pass.new ≡ stepped pass.old Done)) }
+        ensures none { IfOk result (λ x. IfNone x (pass.new ≡ pass.old)) }
         ensures err { OnErr result (pass.new ≡ pass.old) }
     {
+        if !rings.has_ring(key) {
+            return Ok(None);
+        }
         let mut private = private.lock(rt, &mut pass.held);
         let mut board = self.board.lock(rt, &mut pass.held);
         let notices = ended(board.value_mut(), pass, rings, private.value_mut(), key);
         board.release(&mut pass.held);
         private.release(&mut pass.held);
-        notices
+        Ok(Some(notices?))
     }
 }
 

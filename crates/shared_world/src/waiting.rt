@@ -1,5 +1,6 @@
 //! Who is to wait for room in a ring.
-ghost use Rattle.std.specs.Prelude.{◌≡◌};
+ghost use Rattle.std.specs.Prelude.{◌≡◌, IsTrue};
+ghost use Rattle.argo_model.specs.Rules.Fit.{is_fit_load};
 
 use argo_base::{DomId, DomList, MOST_NOTICES, slots};
 use argo_model::{Answer, Load};
@@ -28,7 +29,9 @@ pub(crate) fn is_noted(ring: &Ring, dom: DomId) -> bool {
 }
 
 /// For how many bytes a load needs room, where it comes to that.
-pub(crate) fn size_of(load: &Load) -> Option<u32> {
+pub(crate) fn size_of(load: &Load) -> Option<u32>
+    requires { IsTrue (is_fit_load load.now) }
+{
     match load {
         Load::Body(body) => Some(body.len() as u32),
         Load::Faulted(size) => Some(*size),

@@ -52,6 +52,7 @@ impl<A: Plan, B: Ledger, C: Ledger, P: Pause> Model for World<A, B, C, P> {
     ghost invariant = { λ w. (w.actors.items ≡ A.actors) × IsPlan A.facts A.actors A.parts };
 }
 
+#[tactic(auto, using(crate::proofs::Ranks::is_last, crate::proofs::Ranks::given_back, crate::proofs::PlanLaws::plan_of, crate::proofs::PlanLaws::few_sections))]
 impl<A: Plan, B: Ledger, C: Ledger, P: Pause> World<A, B, C, P> {
     /// The world as a run of the script starts in it, and a pass for each section, in their order.
     pub fn build(
