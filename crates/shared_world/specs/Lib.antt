@@ -3,4 +3,5 @@ pub mod Ends
 pub mod Passes
 pub mod Plans
 pub mod Possible
+pub mod Registering
 pub mod Whole

@@ -1,7 +1,7 @@
 -- Which actions a pass may perform in a shared world, and which outcomes they can have there.
-use Rattle.std.specs.Prelude.{ℕ, Bool, true, false, ◌||◌, if◌then◌else◌, List, [], ◌∷◌, slice_get, Option, Some, None}
+use Rattle.std.specs.Prelude.{ℕ, Bool, true, false, ◌&&◌, ◌||◌, if◌then◌else◌, List, [], ◌∷◌, slice_get, Option, Some, None}
 use Rattle.argo_base.specs.declared.errno.Errno.{Errno}
-use Rattle.argo_base.specs.declared.errno.Errno.TheVariants.{Again, Fault as efault, Busy, Inval, MsgSize}
+use Rattle.argo_base.specs.declared.errno.Errno.TheVariants.{Again, Fault as efault, Busy, Exist, Inval, MsgSize, NoSpc}
 use Rattle.argo_model.specs.declared.action.Action.{Action}
 use Rattle.argo_model.specs.declared.action.Action.TheVariants.{Rest, Fetch, Put, Register, Unregister, Deliver, Sweep, Query, Look, Destroy, Reset, Create}
 use Rattle.argo_model.specs.declared.action.Load.{Load}
@@ -50,3 +50,8 @@ is_answer o = false
 -- a ring is made or starts anew, or its pages are refused
 abbrev pub is_made : Outcome → Bool
 is_made o = is_done_unless (Inval ∷ []) o
+
+-- a registration makes its ring, or starts it anew, or is refused: for its pages, for want of a place, or since the ring stands, where
+-- it asked for that
+abbrev pub is_registered : Bool → Outcome → Bool
+is_registered fail_exist o = is_done_unless (Inval ∷ NoSpc ∷ []) o || (fail_exist && is_refused (Exist ∷ []) o)

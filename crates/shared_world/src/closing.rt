@@ -3,7 +3,7 @@ ghost use Rattle.std.specs.Prelude.{◌≡◌, ◌+◌, All, IfOk, length, map, 
 ghost use Rattle.argo_board.specs.Board.{totals_of};
 ghost use Rattle.argo_board.specs.Journal.{IsFit, accepted_of, bytes_of};
 ghost use Rattle.shared_parts.specs.Closed.{AreRowsOf};
-ghost use Rattle.shared_world.specs.Closed.{AreFlagsOf};
+ghost use Rattle.shared_world.specs.Closed.{AreFlagsOf, flagged};
 ghost use Rattle.shared_world.specs.Passes.{StandInOrder};
 
 use crate::Closed;
@@ -12,11 +12,12 @@ use crate::pause::Pause;
 use crate::world::World;
 use argo_base::NoMemory;
 use argo_board::{Board, Pass};
-use argo_model::{ClosedDomains, Heard};
+use argo_model::{ClosedDomain, ClosedDomains, Heard};
 use shared_parts::Plan;
 use std::alloc::Global;
 use std::sync::ledger::Ledger;
 
+#[tactic(auto, using(crate::proofs::ClosedLaws::flags_shown, crate::proofs::ClosedLaws::rows_shown))]
 impl<A: Plan, B: Ledger, C: Ledger, P: Pause> World<A, B, C, P> {
     /// The journal, the totals of the passes, and the domains as they stand, beside the replies that were heard. Where memory runs out,
     /// the world is lost.
@@ -82,12 +83,18 @@ fn with_flags<A: Ledger, B: Ledger, C: Ledger>(
     rows: ClosedDomains,
     board: &Board<A, B, C>,
 ) -> ClosedDomains
-    ensures flags { AreFlagsOf board.now.entries result }
-    ensures ids { map (λ x. x.id) result ≡ map (λ x. x.id) rows }
+    ensures { result ≡ map (flagged board.now.entries) rows }
 {
     let mut rows = rows.into_vec();
-    for row in rows.as_mut_slice() {
+    set_flags(rows.as_mut_slice(), board);
+    ClosedDomains::from_vec(rows)
+}
+
+// Each row has the flag that the entries leave.
+fn set_flags<A: Ledger, B: Ledger, C: Ledger>(rows: &mut [ClosedDomain], board: &Board<A, B, C>)
+    ensures { rows.new ≡ map (flagged board.now.entries) rows.old }
+{
+    for row in rows.iter_mut() {
         row.flag = board.look(row.id);
     }
-    ClosedDomains::from_vec(rows)
 }

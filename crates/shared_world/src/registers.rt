@@ -8,7 +8,7 @@ ghost use Rattle.argo_model.specs.Rules.Possible.{is_possible};
 ghost use Rattle.argo_board.specs.Board.{most_steps};
 ghost use Rattle.shared_parts.specs.Domains.{IsParty};
 ghost use Rattle.shared_world.specs.Passes.{stepped};
-ghost use Rattle.shared_world.specs.Possible.{is_made};
+ghost use Rattle.shared_world.specs.Possible.{is_made, is_registered};
 
 use crate::journal::append;
 use crate::pass::WorldPass;
@@ -25,7 +25,7 @@ use shared_parts::{Domains, Party, Plan, Rings};
 use std::sync::Wait;
 use std::sync::ledger::Ledger;
 
-#[tactic(auto, using(crate::proofs::Ranks::is_last, crate::proofs::Ranks::given_back))]
+#[tactic(auto, using(crate::proofs::Ranks::is_last, crate::proofs::Ranks::given_back, crate::proofs::RegisterLaws::register_possible, crate::proofs::RegisterLaws::made_registered))]
 impl<A: Plan, B: Ledger, C: Ledger, P: Pause> World<A, B, C, P> {
     /// A caller registers a ring. A new one is put into its partner's list before it is made.
     pub(crate) fn register<R: Wait>(
@@ -52,28 +52,44 @@ impl<A: Plan, B: Ledger, C: Ledger, P: Pause> World<A, B, C, P> {
         }
         let private = &caller.live.private;
         let mut part = caller.live.rings.write(rt, &mut pass.held);
-        let rings = part.value_mut();
-        let outcome = match found(rings, &r) {
-            Standing::Refused(error) => self.note(rt, pass, Outcome::Refused(error)),
-            Standing::Same => self.note(rt, pass, Outcome::Done),
-            Standing::Other => match self.register_anew(rt, pass, private, rings, &r) {
-                Ok((outcome, ended)) => {
-                    self.unlist_ended(rt, pass, domains, r.id, ended.as_slice());
-                    Ok(outcome)
-                }
-                Err(refused) => Err(refused),
-            },
-            Standing::None => match self.list_ring(rt, pass, domains, r.id) {
-                Ok(()) => {
-                    let outcome = self.make(rt, pass, private, rings, &r);
-                    self.keep_listed(rt, pass, domains, r.id, &outcome);
-                    outcome
-                }
-                Err(refused) => Err(refused),
-            },
-        };
+        let outcome = self.register_in(rt, pass, domains, private, part.value_mut(), &r);
         part.release(&mut pass.held);
         outcome
+    }
+
+    // Registers a ring in the caller's table.
+    fn register_in<R: Wait>(
+        &self,
+        rt: &R,
+        pass: &mut WorldPass<A, B, C>,
+        domains: &Domains<A>,
+        private: &Gate<Private, 6>,
+        rings: &mut Rings,
+        r: &Registration,
+    ) -> Result<Outcome, NoMemory>
+        requires held { pass.old.held ≡ 1 ∷ 2 ∷ [] }
+        requires few { pass.old.tally.steps < most_steps }
+        requires legal { IsTrue (is_legal r.now.len) }
+        requires counted { length r.now.pages ≡ page_count r.now.len }
+        ensures can { IfOk result (λ o. IsTrue (is_registered r.now.fail_exist o)) }
+        ensures pass { IfOk result (λ o. pass.new ≡ stepped pass.old o) }
+        ensures err { OnErr result (pass.new ≡ pass.old) }
+    {
+        match found(rings, r) {
+            Standing::Refused(error) => self.note(rt, pass, Outcome::Refused(error)),
+            Standing::Same => self.note(rt, pass, Outcome::Done),
+            Standing::Other => {
+                let (outcome, ended) = self.register_anew(rt, pass, private, rings, r)?;
+                self.unlist_ended(rt, pass, domains, r.id, ended.as_slice());
+                Ok(outcome)
+            }
+            Standing::None => {
+                self.list_ring(rt, pass, domains, r.id)?;
+                let outcome = self.make(rt, pass, private, rings, r);
+                self.keep_listed(rt, pass, domains, r.id, &outcome);
+                outcome
+            }
+        }
     }
 
     // Makes a ring on pages of the caller that stand in no ring.

@@ -1,8 +1,14 @@
 //! What a domain asks for when it registers a ring, and how that finds the world.
-ghost use Rattle.std.specs.Prelude.{◌≡◌};
+ghost use Rattle.std.specs.Prelude.{◌≡◌, ◌&&◌, ◌||◌, not, true, IsTrue, IfSome, IfNone};
+ghost use Rattle.argo_base.specs.Match.{is_wildcard};
+ghost use Rattle.argo_model.specs.declared.action.Action.TheVariants.{Register};
+ghost use Rattle.argo_model.specs.declared.action.Outcome.TheVariants.{Refused};
+ghost use Rattle.argo_model.specs.declared.scripts.Actor.TheVariants.{Vcpu};
+ghost use Rattle.argo_model.specs.Rules.Possible.{is_on_line, is_possible, may_be_away};
 ghost use Rattle.shared_parts.specs.Domains.{IsParty};
+ghost use Rattle.shared_world.specs.Registering.{MayFind};
 
-use argo_base::{Errno, PageList, RingId};
+use argo_base::{DomId, Errno, PageList, RingId};
 use ring_core::Ring;
 use shared_parts::{Domains, Party, Plan, Rings};
 
@@ -33,25 +39,45 @@ pub(crate) fn refusal<A: Plan>(
     domains: &Domains<A>,
     caller: &Party<'_>,
     r: &Registration,
-) -> Option<Errno> {
-    let mut is_on = true;
-    if !r.id.partner.is_any() {
-        let Some(partner) = domains.party(r.id.partner) else {
-            return Some(Errno::Srch);
-        };
-        is_on = partner.on;
-    }
+) -> Option<Errno>
+    requires { IsParty A.facts caller.now.id caller.now.on caller.now.pages }
+    ensures refused { IfSome result
+        (λ e. IsTrue (is_possible A.facts (Vcpu caller.now.id caller.now.generation)
+        (Register r.now.id.port r.now.id.partner r.now.len r.now.pages r.now.fail_exist) (Refused e))) }
+    ensures on { IfNone result (caller.now.on ≡ true) }
+    ensures other { IfNone result
+        (IsTrue (is_wildcard r.now.id.partner || is_on_line A.facts r.now.id.partner)) }
+{
+    let Some(is_on) = partner_on(domains, r.id.partner) else {
+        return Some(Errno::Srch);
+    };
     if !caller.on {
-        Some(Errno::NoDev)
-    } else if !is_on {
-        Some(Errno::ConnRefused)
-    } else {
-        None
+        return Some(Errno::NoDev);
     }
+    if !is_on {
+        return Some(Errno::ConnRefused);
+    }
+    None
+}
+
+// Whether a single partner is on, where it is alive. No wildcard is off.
+fn partner_on<A: Plan>(domains: &Domains<A>, partner: DomId) -> Option<bool>
+    ensures on { IfSome result
+        (λ on. on ≡ (is_wildcard partner || is_on_line A.facts partner)) }
+    ensures away { IfNone result
+        (IsTrue (not (is_wildcard partner) && may_be_away A.facts partner)) }
+{
+    if partner.is_any() {
+        return Some(true);
+    }
+    let party = domains.party(partner)?;
+    Some(party.on)
 }
 
 /// How a registration finds the caller's rings, where it is not refused before.
-pub(crate) fn found(rings: &mut Rings, r: &Registration) -> Standing {
+pub(crate) fn found(rings: &mut Rings, r: &Registration) -> Standing
+    ensures { MayFind r.now.fail_exist result }
+{
     let is_full = rings.is_full();
     match rings.ring_mut(r.id.key()) {
         Some(_) if r.fail_exist => Standing::Refused(Errno::Exist),

@@ -1,12 +1,12 @@
 //! The world, and each action of a pass.
-ghost use Rattle.std.specs.Prelude.{◌≡◌, ◌+◌, ◌<◌, [], ◌∷◌, IsTrue, IfOk, OnErr, length, map};
+ghost use Rattle.std.specs.Prelude.{◌≡◌, ◌+◌, ◌<◌, ◌≤◌, [], ◌∷◌, IsTrue, IfOk, OnErr, length, map};
 ghost use Rattle.argo_model.specs.declared.scripts.Actor.TheVariants.{Vcpu};
 ghost use Rattle.argo_model.specs.Rules.Access.{is_fit_at};
 ghost use Rattle.argo_model.specs.Rules.Fit.{is_fit, is_fit_for};
 ghost use Rattle.argo_model.specs.Rules.Possible.{facts_of, is_possible};
 ghost use Rattle.argo_model.specs.Runs.Final.{totals_after};
 ghost use Rattle.argo_model.specs.Runs.Script.{is_known_actor};
-ghost use Rattle.argo_board.specs.Board.{most_steps, totals_of};
+ghost use Rattle.argo_board.specs.Board.{AreFresh as AreFreshTallies, most_steps, most_vcpus, totals_of};
 ghost use Rattle.shared_parts.specs.Domains.{IsParty};
 ghost use Rattle.shared_world.specs.Passes.{AreFresh, stepped};
 ghost use Rattle.shared_world.specs.Possible.{is_possible_at, may_end};
@@ -277,10 +277,16 @@ fn actors_of(alloc: Global, parts: &[Part]) -> Result<Vec<Actor>, NoMemory>
 }
 
 // The passes of a board, each with no lock held.
+#[tactic(auto, using(crate::proofs::FreshPasses::left_first, crate::proofs::FreshPasses::left_rest, crate::proofs::FreshPasses::fresh_more, crate::proofs::FreshPasses::all_left, crate::proofs::FreshPasses::all_fresh))]
 fn world_passes<A: Ledger, B: Ledger, C: Ledger>(
     alloc: Global,
     passes: Vec<Pass<A, B, C>>,
-) -> Result<Vec<WorldPass<A, B, C>>, NoMemory> {
+) -> Result<Vec<WorldPass<A, B, C>>, NoMemory>
+    requires few { length passes.items ≤ most_vcpus }
+    requires fresh { AreFreshTallies passes.items }
+    ensures count { IfOk result (λ r. length r.items ≡ length passes.items) }
+    ensures fresh { IfOk result (λ r. AreFresh r.items) }
+{
     let mut all = Vec::with_capacity(alloc, passes.len())?;
     let mut vcpu: u32 = 0;
     for pass in passes {
