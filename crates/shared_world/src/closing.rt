@@ -17,7 +17,7 @@ use shared_parts::Plan;
 use std::alloc::Global;
 use std::sync::ledger::Ledger;
 
-#[tactic(auto, using(crate::proofs::ClosedLaws::flags_shown, crate::proofs::ClosedLaws::rows_shown))]
+#[tactic(auto, using(crate::proofs::ClosedLaws::flags_shown, crate::proofs::ClosedLaws::rows_shown, crate::proofs::ClosedLaws::order_kept, crate::proofs::ClosedLaws::totals_kept))]
 impl<A: Plan, B: Ledger, C: Ledger, P: Pause> World<A, B, C, P> {
     /// The journal, the totals of the passes, and the domains as they stand, beside the replies that were heard. Where memory runs out,
     /// the world is lost.

@@ -70,7 +70,9 @@ fn partner_on<A: Plan>(domains: &Domains<A>, partner: DomId) -> Option<bool>
     if partner.is_any() {
         return Some(true);
     }
-    let party = domains.party(partner)?;
+    let Some(party) = domains.party(partner) else {
+        return None;
+    };
     Some(party.on)
 }
 

@@ -7,8 +7,8 @@ use Rattle.shared_world.proofs.send.offered.Goals as goal
 
 pub append-requires-clause-short : goal.append-requires-clause-short
 append-requires-clause-short g c =
-    subst (λ x. IsOutcome (short_of x)) (sym c.outcome_of.ensures) (said_fits c.args.ring.now c.args.offer _ c.accept.ensures.outcome c.requires.short)
+    subst (λ x. IsOutcome (short_of x)) (sym c.outcome_of-outcome.ensures) (said_fits c.args.ring.now c.args.offer _ c.accept.ensures.outcome c.requires.short)
 
 pub returns-clause-can : goal.returns-clause-can
 returns-clause-can g c =
-    subst (λ x. IsTrue (is_offered c.args.offer.load x)) (sym c.outcome_of.ensures) (said_can c.args.ring.now c.args.offer _ c.accept.ensures.outcome)
+    subst (λ x. IsTrue (is_offered c.args.offer.load x)) (sym c.outcome_of-outcome.ensures) (said_can c.args.ring.now c.args.offer _ c.accept.ensures.outcome)
