@@ -1,4 +1,4 @@
-use Rattle.std.proofs.Common.{◌≡◌, IsTrue, sym, subst}
+use Rattle.std.proofs.Common.{◌≡◌, IsTrue, sym, subst, ◌∙◌}
 use Rattle.argo_model.specs.Rules.Shorts.{short_of}
 use Rattle.argo_board.specs.Journal.{IsOutcome}
 use Rattle.shared_world.specs.Possible.{is_offered}
@@ -11,4 +11,4 @@ append-requires-clause-short g c =
 
 pub returns-clause-can : goal.returns-clause-can
 returns-clause-can g c =
-    subst (λ x. IsTrue (is_offered c.args.offer.load x)) (sym c.outcome_of-outcome.ensures) (said_can c.args.ring.now c.args.offer _ c.accept.ensures.outcome)
+    subst (λ x. IsTrue (is_offered c.args.offer.load x)) (sym (c.append.ensures.outcome ∙ c.outcome_of-outcome.ensures)) (said_can c.args.ring.now c.args.offer _ c.accept.ensures.outcome)
