@@ -58,7 +58,7 @@ offer_fits p owner o (Faulted n) is fit =
     if_fits_keeps (λ x. IsOutcome (short_of x)) (refused_fits MsgSize) (refused_fits Busy) (refused_fits Again) p o.sender n (refused Fault) (refused_fits Fault)
 offer_fits p owner o (Body bytes) is fit =
     if_fits_keeps (λ x. IsOutcome (short_of x)) (refused_fits MsgSize) (refused_fits Busy) (refused_fits Again) p o.sender (length bytes) (accepted p owner (message_of o bytes))
-      (omega arith, λ _. at_most (length bytes) longest_body fit)
+    (omega arith, λ _. at_most (length bytes) longest_body fit)
 
 -- what a ring says to an offer
 pub said_can : (h : Held) (o : Offer) (x : Outcome) → ((owner : ℕ) → IsSaid h x (λ p. (offer p owner o).outcome)) → IsTrue (is_offered o.load x)

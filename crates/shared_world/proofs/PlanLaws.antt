@@ -16,7 +16,7 @@ all_known ds [] known = All-nil (λ actor. IsTrue (is_known_actor ds actor))
 all_known ds (x ∷ xs) known =
     let parts = and_parts (is_known_section ds x) (list_all (is_known_section ds) xs) known in
     All-cons (λ actor. IsTrue (is_known_actor ds actor)) x.actor (map (λ x. x.actor) xs)
-      (and_parts (is_known_actor ds x.actor) (list_all (names_known ds) x.lines) parts.0).0 (all_known ds xs parts.1)
+    (and_parts (is_known_actor ds x.actor) (list_all (names_known ds) x.lines) parts.0).0 (all_known ds xs parts.1)
 
 at_most : (a b : ℕ) → nat_le a b ≡ true → a ≤ b
 at_most a b h = grind (arith, nat_tests)
@@ -40,7 +40,7 @@ plan_of f actors parts s is are count lawful =
     let few = few_sections s lawful in
     record {
       known = subst (λ (g : Facts). All (λ actor. IsTrue (is_known_actor g.domains actor)) actors) (sym is)
-        (subst (λ (xs : List Actor). All (λ actor. IsTrue (is_known_actor s.domains actor)) xs) (sym are) (all_known s.domains s.sections (and_parts _ _ lawful).1));
+          (subst (λ (xs : List Actor). All (λ actor. IsTrue (is_known_actor s.domains actor)) xs) (sym are) (all_known s.domains s.sections (and_parts _ _ lawful).1));
       parts_are = omega (arith, count, counted);
       few = omega (arith, few, counted);
     }

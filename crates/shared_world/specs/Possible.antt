@@ -55,3 +55,18 @@ is_made o = is_done_unless (Inval ∷ []) o
 -- it asked for that
 abbrev pub is_registered : Bool → Outcome → Bool
 is_registered fail_exist o = is_done_unless (Inval ∷ NoSpc ∷ []) o || (fail_exist && is_refused (Exist ∷ []) o)
+
+-- it is neither a fetch, a put nor a look at the flag
+abbrev pub is_other_act : Action → Bool
+is_other_act Rest = true
+is_other_act (Fetch page off n) = false
+is_other_act (Put page off bytes) = false
+is_other_act (Register port partner len pages fail_exist) = true
+is_other_act (Unregister port partner) = true
+is_other_act (Deliver port to to_port kind load) = true
+is_other_act (Sweep serial) = true
+is_other_act (Query to to_port need) = true
+is_other_act Look = false
+is_other_act (Destroy dom) = true
+is_other_act (Reset dom) = true
+is_other_act (Create dom) = true

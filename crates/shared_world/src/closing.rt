@@ -21,11 +21,7 @@ use std::sync::ledger::Ledger;
 impl<A: Plan, B: Ledger, C: Ledger, P: Pause> World<A, B, C, P> {
     /// The journal, the totals of the passes, and the domains as they stand, beside the replies that were heard. Where memory runs out,
     /// the world is lost.
-    pub fn close(
-        self,
-        passes: Vec<WorldPass<A, B, C>>,
-        heard: Heard,
-    ) -> Result<Closed, NoMemory>
+    pub fn close(self, passes: Vec<WorldPass<A, B, C>>, heard: Heard) -> Result<Closed, NoMemory>
         requires count { length passes.items + 1 ≡ A.parts }
         requires order { StandInOrder passes.items }
         ensures fit { IfOk result (λ c. All (IsFit (length passes.items)) c.entries) }

@@ -70,12 +70,7 @@ fn looked<A: Ledger, B: Ledger, C: Ledger>(
 {
     board.reserve()?;
     let set = board.look(dom);
-    Ok(append(
-        board,
-        pass,
-        Outcome::Flag(set),
-        FlagChange::Clear(dom),
-    ))
+    Ok(append(board, pass, Outcome::Flag(set), FlagChange::Clear(dom)))
 }
 
 #[tactic(auto, using(crate::proofs::Ranks::is_last, crate::proofs::Ranks::given_back))]

@@ -285,10 +285,5 @@ fn asked_of<A: Ledger, B: Ledger, C: Ledger>(
 {
     board.reserve()?;
     let answer = ring.query(dom, need);
-    Ok(append(
-        board,
-        pass,
-        Outcome::Answer(answer),
-        FlagChange::Keep,
-    ))
+    Ok(append(board, pass, Outcome::Answer(answer), FlagChange::Keep))
 }

@@ -9,13 +9,13 @@ ghost use Rattle.argo_model.specs.Runs.Script.{is_known_actor};
 ghost use Rattle.argo_board.specs.Board.{AreFresh as AreFreshTallies, most_steps, most_vcpus, totals_of};
 ghost use Rattle.shared_parts.specs.Domains.{IsParty};
 ghost use Rattle.shared_world.specs.Passes.{AreFresh, stepped};
-ghost use Rattle.shared_world.specs.Possible.{is_possible_at, may_end};
+ghost use Rattle.shared_world.specs.Possible.{is_other_act, is_possible_at, may_end};
 
+use crate::blanks::Blanks;
 use crate::ends::End;
 use crate::memory::Writing;
 use crate::pass::WorldPass;
 use crate::pause::Pause;
-use crate::blanks::Blanks;
 use crate::registration::Registration;
 use crate::send::{Asked, Sent};
 use argo_base::{NoMemory, Piece, RingId, RingKey};
@@ -211,6 +211,7 @@ impl<A: Plan, B: Ledger, C: Ledger, P: Pause> World<A, B, C, P> {
     ) -> Result<Outcome, NoMemory>
         requires held { pass.old.held ≡ 1 ∷ [] }
         requires few { pass.old.tally.steps < most_steps }
+        requires other { IsTrue (is_other_act a) }
         requires fit { IsTrue (is_fit a) }
         requires caller { IsParty A.facts caller.now.id caller.now.on caller.now.pages }
         ensures possible { IfOk result
