@@ -1,5 +1,5 @@
 -- Laws of passes that are made one after another, for virtual CPU 0, 1 and so on.
-use Rattle.std.proofs.Common.{◌≡◌, ℕ, zero, suc, ◌+◌, ◌<◌, List, [], ◌∷◌, ◌++◌, length, slice_index_or, refl, ap, ◌∙◌, subst, arith}
+use Rattle.std.proofs.Common.{◌≡◌, ℕ, zero, suc, ◌+◌, ◌<◌, List, [], ◌∷◌, ◌++◌, length, slice_index_or, ap, ◌∙◌, subst, arith}
 use Rattle.argo_board.specs.Board.{Tally, tally, AreFresh as AreFreshTallies}
 use Rattle.shared_world.specs.Passes.{Carried, carried, AreFresh}
 

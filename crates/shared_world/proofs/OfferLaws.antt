@@ -1,5 +1,5 @@
 -- Laws of what a ring answers to an offer: one of the outcomes that it may have, and one that fits into an entry.
-use Rattle.std.proofs.Common.{◌≡◌, ℕ, ◌==◌, ◌≤◌, nat_le, Bool, true, false, ◌||◌, if◌then◌else◌, List, [], ◌∷◌, length, IsTrue, refl, sym, ap, subst, arith}
+use Rattle.std.proofs.Common.{◌≡◌, ℕ, ◌==◌, ◌≤◌, nat_le, Bool, true, false, ◌||◌, if◌then◌else◌, [], ◌∷◌, length, IsTrue, refl, sym, ap, subst, arith}
 use Rattle.std.proofs.lemmas.Bool.Decides.{nat_tests}
 use Rattle.argo_base.specs.declared.errno.Errno.{Errno}
 use Rattle.argo_base.specs.declared.errno.Errno.TheVariants.{Again, Busy, MsgSize, Fault}
@@ -11,7 +11,7 @@ use Rattle.argo_model.specs.declared.action.Load.{Load}
 use Rattle.argo_model.specs.declared.action.Load.TheVariants.{Body, Faulted, Refused as RefusedLoad}
 use Rattle.argo_model.specs.declared.action.Outcome.{Outcome}
 use Rattle.argo_model.specs.declared.action.Outcome.TheVariants.{Refused}
-use Rattle.argo_model.specs.Rules.Deliver.{Offer, offer, if_it_fits, wait_for_room, with_notice, accepted, message_of}
+use Rattle.argo_model.specs.Rules.Deliver.{Offer, offer, if_it_fits, with_notice, accepted, message_of}
 use Rattle.argo_model.specs.Rules.Effects.{Change, refused, leaving, refuse_if}
 use Rattle.argo_model.specs.Rules.Fit.{is_fit_load}
 use Rattle.argo_model.specs.Rules.Outcomes.{is_refused}

@@ -1,7 +1,7 @@
 -- Laws of ranks that are taken and given back.
-use Rattle.std.proofs.Common.{◌≡◌, ℕ, ◌+◌, ◌-◌, ◌<◌, List, [], ◌∷◌, ◌++◌, length, take, slice_get, Some, refl, ap, ◌∙◌, arith}
+use Rattle.std.proofs.Common.{◌≡◌, ℕ, ◌-◌, List, [], ◌∷◌, ◌++◌, length, take, slice_get, Some, refl, ap, ◌∙◌, arith}
 use Rattle.std.proofs.lemmas.List.{length-append}
-use Rattle.lock_tokens.specs.Ranks.{IsAboveAll, IsLast, without_last}
+use Rattle.lock_tokens.specs.Ranks.{IsLast, without_last}
 
 one_less : (held : List ℕ) (rank : ℕ) → length (held ++ rank ∷ []) - 1 ≡ length held
 one_less held rank = omega (arith, length-append held (rank ∷ []))

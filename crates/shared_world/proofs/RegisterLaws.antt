@@ -10,7 +10,7 @@ use Rattle.argo_model.specs.declared.scripts.Actor.TheVariants.{Vcpu}
 use Rattle.argo_model.specs.Programs.Program.{caller_of}
 use Rattle.argo_model.specs.Runs.Final.{accepted_size, is_accepted}
 use Rattle.argo_model.specs.Rules.Outcomes.{can_have, is_refused, is_done, is_fault, is_gone}
-use Rattle.argo_model.specs.Rules.Possible.{Facts, is_on_line, other_is_on, is_possible, only_where, may_be_gone, other_may_be_away, needs_on, misses_page, asks_for_new, delivers_fault, delivers_inval}
+use Rattle.argo_model.specs.Rules.Possible.{Facts, other_is_on, is_possible, only_where, may_be_gone, other_may_be_away, needs_on, misses_page, asks_for_new, delivers_fault, delivers_inval}
 use Rattle.shared_parts.specs.Domains.{IsParty}
 use Rattle.shared_world.specs.Possible.{is_made, is_registered}
 

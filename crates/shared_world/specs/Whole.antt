@@ -4,7 +4,6 @@ use Rattle.argo_model.specs.declared.closed.HeardLine.{HeardLine}
 use Rattle.argo_model.specs.declared.closing.Totals.{Totals}
 use Rattle.argo_model.specs.Runs.Script.{Script, Section}
 use Rattle.argo_board.specs.Journal.{IsFit, accepted_of, bytes_of}
-use Rattle.argo_board.specs.declared.entry.Entry.{Entry}
 use Rattle.shared_world.specs.declared.closed.Closed.{Closed}
 
 -- the steps rise, from above this one on

@@ -1,4 +1,4 @@
-use Rattle.std.proofs.Common.{◌≡◌, IsTrue, sym, subst, ◌∙◌}
+use Rattle.std.proofs.Common.{IsTrue, sym, subst, ◌∙◌}
 use Rattle.argo_model.specs.Rules.Shorts.{short_of}
 use Rattle.argo_board.specs.Journal.{IsOutcome}
 use Rattle.shared_world.specs.Possible.{is_offered}

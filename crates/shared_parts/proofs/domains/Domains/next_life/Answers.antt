@@ -1,5 +1,4 @@
-use Rattle.std.proofs.Common.{◌≡◌, true, false, not, is_some, sym, ap, ◌∙◌}
-use Rattle.std.proofs.lemmas.Bool.{not-true}
+use Rattle.std.proofs.Common.{sym, ap, ◌∙◌}
 use Rattle.shared_parts.specs.Domains.{Standing}
 use Rattle.shared_parts.proofs.Standings.{none_unknown, gone_destroyed}
 use Rattle.shared_parts.proofs.domains.Domains.next_life.Goals as goal
