@@ -5,7 +5,7 @@ mod scripts;
 
 use actions::{Draws, Kind};
 use argo_base::NoMemory;
-use argo_model::{Access, Action, Heard, Outcome, Scripts};
+use argo_model::{Access, Action, Heard, Outcome, Scripts, SerialWorld};
 use flat_world::FlatWorld;
 use shared_parts::Plan;
 use shared_world::{Blanks, Closed, NoPause, World, WorldPass};
@@ -64,9 +64,10 @@ fn run_both<A: Plan, B: Ledger, C: Ledger, R: Wait>(
     blanks: Blanks,
     (seed, steps): (u64, u64),
 ) -> Result<Both, NoMemory> {
-    let mut flat = FlatWorld::new(alloc, scripts)?;
-    let (world, passes): (World<A, B, C, NoPause>, Vec<WorldPass<A, B, C>>) =
-        World::build(alloc, scripts, NoPause, blanks)?;
+    let mut flat = FlatWorld::start(alloc, scripts)?;
+    let (world, passes): (World<A, B, C, NoPause>, Vec<WorldPass<A, B, C>>) = World::build(
+        alloc, scripts, NoPause, blanks,
+    )?;
     let mut passes = passes;
     let mut draws = Draws::new(seed);
     let mut differs = None;

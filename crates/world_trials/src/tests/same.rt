@@ -50,8 +50,5 @@ fn are_same_rings(a: &ClosedRing, b: &ClosedRing) -> bool {
 }
 
 fn are_same_messages(a: &Message, b: &Message) -> bool {
-    a.src == b.src
-        && a.port == b.port
-        && a.kind == b.kind
-        && a.body.as_slice() == b.body.as_slice()
+    a.src == b.src && a.port == b.port && a.kind == b.kind && a.body.as_slice() == b.body.as_slice()
 }
