@@ -45,7 +45,7 @@ impl DomainLists {
         }
     }
 
-    /// Adds a ring to the list of a domain. One that is named already takes no memory; where memory runs out all stay.
+    /// Adds a ring to the list of a domain, where it is not named yet. Where memory runs out all lists stay as they were.
     pub fn add(&mut self, alloc: Global, dom: DomId, id: RingId) -> Result<(), NoMemory>
         ensures ok { OnOk result
             ((d : ℕ) (x : Id) → names self.new d x ≡ (is_pair dom id d x || names self.old d x)) }

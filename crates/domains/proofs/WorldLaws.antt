@@ -30,7 +30,7 @@ use Rattle.section_world.specs.Acts.{caller_on, on_if_live, on_if_there}
 use Rattle.section_world.specs.Young.{is_young_life, is_young_domain}
 use Rattle.live_domain.specs.declared.registration.Registration.{Registration}
 use Rattle.domains.specs.World.{accepted_signals, register_change, registered, registered_if_live, registered_if_there}
-use Rattle.section_world.proofs.TestLaws.{both}
+use Rattle.live_domain.proofs.TestLaws.{both}
 
 -- what holds in any case holds after an error
 pub in_any_case : {T E P : Type 0} (r : Result T E) → P → OnErr r P

@@ -8,18 +8,8 @@ use Rattle.argo_base.specs.Splice.{splice}
 use Rattle.argo_base.proofs.SpliceLaws.{splice-nil, splice-append_left, splice-append_right, length-splice, take-splice_before, drop-splice_after, part-splice, splice-splice}
 use Rattle.argo_model.specs.Rules.Register.{has_number, all_differ}
 use Rattle.argo_model.specs.Rules.RingBytes.{ring_bytes, laid}
+use Rattle.live_domain.proofs.TestLaws.{both}
 use Rattle.flat_live.specs.Memory.{are_there, IsLaid, Writes, WritesOn}
-
--- both of two tests hold
-pub both : (x y : Bool) → IsTrue (x && y) → IsTrue x × IsTrue y
-both true true h = (refl, refl)
-both true false h = absurd (false≢true h)
-both false y h = absurd (false≢true h)
-
-pub and_also : (x y : Bool) → IsTrue x → IsTrue y → IsTrue (x && y)
-and_also true true hx hy = refl
-and_also true false hx hy = hy
-and_also false y hx hy = hx
 
 neither : (x y : Bool) → IsTrue (not (x || y)) → IsTrue (not x) × IsTrue (not y)
 neither false y h = (refl, h)

@@ -11,7 +11,7 @@ use Rattle.argo_model.specs.Rules.RingBytes.{PagedRing, paged, set_paged, laid}
 use Rattle.flat_live.specs.Memory.{are_there, stand_in}
 use Rattle.argo_model.specs.Rules.Puts.{after_put, ring_after_put, clean_after, moves, touches, dirtied, byte_at}
 use Rattle.argo_model.specs.Rules.Destroy.{ring_without, rings_without}
-use Rattle.flat_live.proofs.EntryLaws.{all_pass-lookup, all_pass-set_value, all_pass-map, all_pass-filter}
+use Rattle.live_domain.proofs.EntryLaws.{all_pass-lookup, all_pass-set_value, all_pass-map, all_pass-filter}
 use Rattle.flat_live.proofs.LaidLaws.{laid_own}
 
 -- a ring that is found stands in the memory

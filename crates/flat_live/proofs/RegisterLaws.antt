@@ -18,8 +18,9 @@ use Rattle.argo_model.specs.Rules.RingBytes.{laid, ring_bytes, rx_word, tx_word,
 use Rattle.argo_model.specs.Rules.Starts.{start_place, bytes_after_start}
 use Rattle.flat_live.specs.Memory.{are_there, stand_in}
 use Rattle.flat_live.specs.Starts.{start_on, memory_with_start}
-use Rattle.flat_live.proofs.EntryLaws.{all_pass-set_value, all_pass-insert_entry}
-use Rattle.flat_live.proofs.LaidLaws.{both, and_also, written, laid_own, length-ring_bytes}
+use Rattle.live_domain.proofs.EntryLaws.{all_pass-set_value, all_pass-insert_entry}
+use Rattle.live_domain.proofs.TestLaws.{both, and_also}
+use Rattle.flat_live.proofs.LaidLaws.{written, laid_own, length-ring_bytes}
 
 -- a start is laid back
 pub start_laid : (memory pages : List ℕ) (r : Ring) → 0 < length pages → IsTrue (are_there (length memory / 4096) pages) → IsTrue (all_differ pages)

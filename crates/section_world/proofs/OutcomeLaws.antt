@@ -31,8 +31,8 @@ use Rattle.argo_model.specs.Rules.Destroy.{destroy, reset, create}
 use Rattle.argo_model.specs.Rules.Act.{act, act_of, act_if_live, act_if_there, act_of_control}
 use Rattle.argo_model.specs.Rules.Fit.{is_fit, is_fit_for, needs_no_caller}
 use Rattle.argo_model.specs.Rules.Outcomes.{can_have, is_delivered}
-use Rattle.section_world.proofs.TestLaws.{both}
-use Rattle.section_world.proofs.TestLaws.{le_from}
+use Rattle.live_domain.proofs.TestLaws.{both}
+use Rattle.live_domain.proofs.TestLaws.{le_from}
 
 -- a fetch lies inside a page
 abbrev FetchesInPage : Action → Type 0

@@ -21,9 +21,9 @@ use Rattle.argo_model.specs.Runs.Script.{Script, Section, is_lawful}
 use Rattle.section_world.specs.Young.{is_young_life, is_young_domain, IsYoung, are_shown}
 use Rattle.argo_model.specs.Rules.Access.{steps_of}
 use Rattle.section_world.specs.Sections.{WorldAt, IsSmall, IsWorld}
-use Rattle.section_world.proofs.EntryLaws.{all_pass-weaker, all_pass-insert_entry}
-use Rattle.section_world.proofs.TestLaws.{both, and_also}
-use Rattle.section_world.proofs.TestLaws.{le_from}
+use Rattle.live_domain.proofs.EntryLaws.{all_pass-weaker, all_pass-insert_entry}
+use Rattle.live_domain.proofs.TestLaws.{both, and_also}
+use Rattle.live_domain.proofs.TestLaws.{le_from}
 use Rattle.section_world.proofs.YoungLaws.{act_young}
 
 le_up : (a m n : ℕ) → m ≤ n → IsTrue (nat_le a m) → IsTrue (nat_le a n)
@@ -131,15 +131,21 @@ shown_of n few x h = less (both (nat_le x.generation n) (is_young_life n x.life)
   less : IsTrue (nat_le x.generation n) → IsTrue (nat_lt x.generation (2 ^ 32))
   less h = grind (arith, nat_tests)
 
+-- the generations of a young state fit their rows
+pub young_shown : (n : ℕ) (s : State) → n < 2 ^ 32 → IsYoung n s → IsTrue (are_shown s)
+young_shown n s few young = all_pass-weaker (is_young_domain n) (λ x. nat_lt x.generation (2 ^ 32)) (shown_of n few) s young
+
 -- few steps leave generations that fit their rows
 pub shown : (w : WorldAt) → IsWorld w → steps_of w.totals < 2 ^ 32 - 1 → IsTrue (are_shown w.state)
-shown w is few =
-    all_pass-weaker (is_young_domain (steps_of w.totals + 1)) (λ x. nat_lt x.generation (2 ^ 32)) (shown_of (steps_of w.totals + 1) (omega arith)) w.state is.young
+shown w is few = young_shown (steps_of w.totals + 1) w.state (omega arith) is.young
 
 lines_young : (ls : List DomainLine) (s : State) → IsYoung 1 s → IsYoung 1 (fold (λ s l. insert_entry nat_cmp s l.id (fresh_domain l)) s ls)
 lines_young [] s young = young
 lines_young (l ∷ ls) s young =
     lines_young ls (insert_entry nat_cmp s l.id (fresh_domain l)) (all_pass-insert_entry (is_young_domain 1) nat_cmp s l.id (fresh_domain l) young refl)
+
+pub young_start : (ls : List DomainLine) → IsYoung 1 (start_state ls)
+young_start ls = lines_young ls [] refl
 
 few_sections : (s : Script) → IsTrue (is_lawful s) → length s.sections ≤ 64
 few_sections s lawful =
@@ -165,7 +171,7 @@ starts_so lines s lawful =
       few = omega arith;
       as_many = length-map s.sections (λ x. no_steps) ∙ sym n;
       small = no_steps_small s.sections;
-      young = young_up 1 (steps_of (map (λ x. no_steps) s.sections) + 1) (start_state lines) (omega arith) (lines_young lines [] refl);
+      young = young_up 1 (steps_of (map (λ x. no_steps) s.sections) + 1) (start_state lines) (omega arith) (young_start lines);
     }
 
 abbrev pub actors_in : List Section → List Actor

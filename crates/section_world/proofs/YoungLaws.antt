@@ -24,8 +24,8 @@ use Rattle.argo_model.specs.Rules.Register.{own_ring, has_ring, are_free_for, is
 use Rattle.argo_model.specs.Rules.RingBytes.{PagedRing, paged, set_paged}
 use Rattle.argo_model.specs.Rules.Sweep.{sweep_found, sweep_ring, next_ring}
 use Rattle.section_world.specs.Young.{is_young_life, is_young_domain, IsYoung}
-use Rattle.section_world.proofs.EntryLaws.{all_pass-lookup, all_pass-set_value, all_pass-map, all_pass-weaker}
-use Rattle.section_world.proofs.TestLaws.{both, and_also}
+use Rattle.live_domain.proofs.EntryLaws.{all_pass-lookup, all_pass-set_value, all_pass-map, all_pass-weaker}
+use Rattle.live_domain.proofs.TestLaws.{both, and_also}
 
 abbrev YoungLife : ℕ → Option Live → Type 0
 YoungLife n life = IsTrue (is_young_life n life)

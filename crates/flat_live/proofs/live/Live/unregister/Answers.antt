@@ -3,7 +3,7 @@ use Rattle.std.specs.BTreeMap.{is_at}
 use Rattle.argo_base.specs.Match.{key_cmp}
 use Rattle.argo_model.specs.Rules.State.{Ring}
 use Rattle.flat_live.specs.Memory.{are_there, stand_in}
-use Rattle.flat_live.proofs.EntryLaws.{all_pass-remove_entry}
+use Rattle.live_domain.proofs.EntryLaws.{all_pass-remove_entry}
 use Rattle.flat_live.proofs.live.Live.unregister.Goals as goal
 
 pub invariant_of-self-2 : goal.invariant_of-self-2

@@ -1,5 +1,5 @@
 use Rattle.std.proofs.Common.{◌+◌, ◌<◌, ◌^◌, arith}
-use Rattle.plain_world.proofs.TrialLaws.{young_shown}
+use Rattle.section_world.proofs.SectionLaws.{young_shown}
 use Rattle.plain_world.proofs.tests.Trial.closed.Goals as goal
 
 pub closed-requires : goal.closed-requires

@@ -1,7 +1,7 @@
 use Rattle.std.proofs.Common.{◌≡◌, sym, subst}
 use Rattle.argo_model.specs.Rules.State.{State, start_state}
 use Rattle.section_world.specs.Young.{IsYoung}
-use Rattle.plain_world.proofs.TrialLaws.{young_start}
+use Rattle.section_world.proofs.SectionLaws.{young_start}
 use Rattle.plain_world.proofs.tests.Trial.start.Goals as goal
 
 pub invariant_of-result : goal.invariant_of-result

@@ -1,12 +1,12 @@
 -- Laws of what holds of every value of a list of entries.
-use Rattle.std.proofs.Common.{◌≡◌, Bool, true, false, cond, List, [], ◌∷◌, IsTrue, Some, map, refl, subst}
+use Rattle.std.proofs.Common.{◌≡◌, Bool, true, false, cond, List, [], ◌∷◌, IsTrue, Some, map, filter, refl, subst}
 use Rattle.std.specs.List.{list_all}
 use Rattle.std.specs.declared.cmp.Ordering.{Ordering}
 use Rattle.std.specs.declared.cmp.Ordering.TheVariants.{Less, Equal, Greater}
 use Rattle.std.specs.Ordering.{match_ordering}
-use Rattle.std.specs.Map.{lookup, set_value}
+use Rattle.std.specs.Map.{lookup, set_value, remove_entry}
 use Rattle.std.specs.BTreeMap.{insert_entry}
-use Rattle.section_world.proofs.TestLaws.{both, and_also}
+use Rattle.live_domain.proofs.TestLaws.{both, and_also}
 
 -- every value passes a test
 abbrev pub all_pass : {K X : Type 0} → (X → Bool) → List (K × X) → Bool
@@ -39,6 +39,24 @@ all_pass-insert_entry {K} {X} test cmp (e ∷ es) k w all passes =
       by Less rest = and_also (test w) (all_pass test (e ∷ es)) passes all
       by Equal rest = and_also (test w) (all_pass test es) passes (both (test e.1) (all_pass test es) all).1
       by Greater rest = and_also (test e.1) (all_pass test (insert_entry cmp es k w)) (both (test e.1) (all_pass test es) all).0 rest
+
+-- one goes out
+pub all_pass-remove_entry : {K X : Type 0} (test : X → Bool) (at : K → Bool) (es : List (K × X)) → IsTrue (all_pass test es) → IsTrue (all_pass test (remove_entry at es))
+all_pass-remove_entry test at [] all = refl
+all_pass-remove_entry {K} {X} test at (e ∷ es) all =
+    by (at e.0) (all_pass-remove_entry test at es (both (test e.1) (all_pass test es) all).1) where
+      by : (b : Bool) → IsTrue (all_pass test (remove_entry at es)) → IsTrue (all_pass test (cond b es (e ∷ remove_entry at es)))
+      by true rest = (both (test e.1) (all_pass test es) all).1
+      by false rest = and_also (test e.1) (all_pass test (remove_entry at es)) (both (test e.1) (all_pass test es) all).0 rest
+
+-- some go out
+pub all_pass-filter : {K X : Type 0} (test : X → Bool) (kept : K × X → Bool) (es : List (K × X)) → IsTrue (all_pass test es) → IsTrue (all_pass test (filter kept es))
+all_pass-filter test kept [] all = refl
+all_pass-filter {K} {X} test kept (e ∷ es) all =
+    by (kept e) (all_pass-filter test kept es (both (test e.1) (all_pass test es) all).1) where
+      by : (b : Bool) → IsTrue (all_pass test (filter kept es)) → IsTrue (all_pass test (cond b (e ∷ filter kept es) (filter kept es)))
+      by true rest = and_also (test e.1) (all_pass test (filter kept es)) (both (test e.1) (all_pass test es) all).0 rest
+      by false rest = rest
 
 -- all change so that they pass
 pub all_pass-map : {K X : Type 0} (test after : X → Bool) (change : X → X) → ((x : X) → IsTrue (test x) → IsTrue (after (change x))) → (es : List (K × X)) → IsTrue (all_pass test es)
