@@ -35,6 +35,15 @@ impl Page {
         })
     }
 
+    /// Another page with the same bytes.
+    pub(crate) fn twin(&self, alloc: Global) -> Result<Self, NoMemory>
+        ensures { IfOk result (λ p. p ≡ self.now) }
+    {
+        Ok(Page {
+            bytes: Box::new(alloc, *self.bytes())?,
+        })
+    }
+
     pub(crate) fn bytes(&self) -> &[u8; 4096]
         ensures value { result.now ≡ self.now }
         ensures whole { length self.now ≡ page_bytes }
