@@ -1,7 +1,8 @@
-use Rattle.std.proofs.Common.{◌∙◌, ap}
-use Rattle.guest_pages.specs.PageBytes.{page_of}
-use Rattle.guest_pages.proofs.PageLaws.{page_of-whole}
+use Rattle.std.proofs.Common.{◌∙◌, ap, length}
 use Rattle.guest_pages.proofs.page.Page.twin.Goals as goal
 
+pub invariant_of-result : goal.invariant_of-result
+invariant_of-result c = ap length (c.in_ok-copy_of.ensures ∙ c.bytes.ensures.value) ∙ c.bytes.ensures.whole
+
 pub returns : goal.returns
-returns c = ap page_of (c.in_ok-new.ensures.ok ∙ c.bytes.ensures.value) ∙ page_of-whole c.args.self.now c.bytes.ensures.whole
+returns c = c.in_ok-copy_of.ensures ∙ c.bytes.ensures.value
