@@ -1,4 +1,4 @@
-use Rattle.std.proofs.Common.{◌≡◌, ◌∙◌, ap, length}
+use Rattle.std.proofs.Common.{◌∙◌, ap, length}
 use Rattle.guest_pages.specs.PageBytes.{zero_page}
 use Rattle.guest_pages.proofs.PageLaws.{length-zero_page}
 use Rattle.guest_pages.proofs.page.Page.new.Goals as goal
