@@ -6,7 +6,8 @@ use Rattle.std.proofs.lemmas.List.{take-append-le, drop-append-le}
 use Rattle.std.proofs.lemmas.List.Elements.{All-head, All-tail}
 use Rattle.argo_base.specs.Splice.{splice}
 use Rattle.argo_base.proofs.SpliceLaws.{splice-append_left, splice-append_right}
-use Rattle.guest_pages.specs.Rows.{numbers_of, row_bytes, page_in, with_bytes}
+use Rattle.guest_pages.specs.Rows.{numbers_of, row_bytes, page_in}
+use Rattle.guest_pages.proofs.RowLaws.{with_bytes}
 
 abbrev IsPage : ℕ × List ℕ → Type 0
 IsPage p = length p.1 ≡ 4096

@@ -1,8 +1,8 @@
 -- Laws of the bytes of a page.
-use Rattle.std.proofs.Common.{◌≡◌, ℕ, ◌+◌, ◌-◌, ◌≤◌, List, [], ◌++◌, length, take, drop, replicate, Option, Some, None, sym, ap, ◌∙◌, arith, length-append}
+use Rattle.std.proofs.Common.{◌≡◌, ℕ, List, [], ◌++◌, length, take, Option, Some, None, sym, ap, ◌∙◌, arith, length-append}
 use Rattle.std.specs.Prelude.{unwrap_or}
 use Rattle.std.proofs.Math.Seq.{take-append_seam}
-use Rattle.std.proofs.lemmas.List.{length-replicate, length-take-le, take-replicate, drop-replicate}
+use Rattle.std.proofs.lemmas.List.{length-replicate, length-take-le, take-replicate}
 use Rattle.guest_pages.specs.PageBytes.{zero_page, page_of, HoldsPage}
 
 pub length-zero_page : length zero_page ≡ 4096
@@ -23,10 +23,6 @@ page_of-whole xs whole = ap (λ n. take n (xs ++ zero_page)) (sym whole) ∙ tak
 pub page_of_none : page_of [] ≡ zero_page
 unfolding page_of zero_page
 page_of_none = take-replicate {X = ℕ} 4096 4096 0 (omega arith)
-
-pub zeros_read : (off n : ℕ) → off + n ≤ 4096 → take n (drop off zero_page) ≡ replicate n 0
-unfolding zero_page
-zeros_read off n inside = ap (take n) (drop-replicate {X = ℕ} off 4096 0) ∙ take-replicate {X = ℕ} n (4096 - off) 0 (omega (arith, inside))
 
 -- where a page's memory shows 4,096 bytes, there is a page
 pub held_from_length : (o : Option (List ℕ)) → length (unwrap_or o []) ≡ 4096 → HoldsPage o

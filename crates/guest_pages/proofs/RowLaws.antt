@@ -9,7 +9,11 @@ use Rattle.guest_pages.specs.declared.lazy_page.Lent.{Lent}
 use Rattle.guest_pages.specs.PageBytes.{HoldsPage}
 use Rattle.argo_base.specs.Numbers.{all_differ}
 use Rattle.guest_pages.specs.RowInside.{IsRow}
-use Rattle.guest_pages.specs.Rows.{numbered, numbers_of, page_in, with_bytes}
+use Rattle.guest_pages.specs.Rows.{numbered, numbers_of, page_in}
+
+-- the row with other bytes in the page at a place
+abbrev pub with_bytes : List (ℕ × List ℕ) → ℕ → List ℕ → List (ℕ × List ℕ)
+with_bytes row place bytes = slice_set row place ((page_in row place).0, bytes)
 
 pub numbers_of-numbered : (row : List Lent) → numbers_of (map numbered row) ≡ map (λ e. e.number) row
 numbers_of-numbered [] = refl

@@ -1,7 +1,5 @@
 pub mod Allocated
-pub mod Lending
 pub mod LendingPage
-pub mod LendingRow
 pub mod PageBytes
 pub mod Pages
 pub mod PrivateInside

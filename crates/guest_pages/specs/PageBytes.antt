@@ -6,7 +6,7 @@ use Rattle.argo_base.specs.Limits.{page_bytes}
 unfoldable pub zero_page : List ℕ
 zero_page = replicate page_bytes 0
 
--- the bytes of a page are 4,096: these, where they are as many. Rust's type of them says so, and a contract sees a list
+-- the page whose memory shows these bytes: they themselves, where they are 4,096, and a page of zeros, where there are none
 unfoldable pub page_of : List ℕ → List ℕ
 page_of xs = take page_bytes (xs ++ zero_page)
 

@@ -1,5 +1,5 @@
 -- The pages of a row, each with its number, one after another.
-use Rattle.std.specs.Prelude.{ℕ, List, [], map, flat_map, slice_set, slice_index_or, unwrap_or}
+use Rattle.std.specs.Prelude.{ℕ, List, [], map, flat_map, slice_index_or, unwrap_or}
 use Rattle.guest_pages.specs.declared.lazy_page.Lent.{Lent}
 
 -- a place of the row as it is seen: the number of its page and the page's bytes
@@ -17,7 +17,3 @@ row_bytes row = flat_map (λ p. p.1) row
 -- the page at a place of the row
 abbrev pub page_in : List (ℕ × List ℕ) → ℕ → ℕ × List ℕ
 page_in row place = slice_index_or row place (0, [])
-
--- the row with other bytes in the page at a place
-abbrev pub with_bytes : List (ℕ × List ℕ) → ℕ → List ℕ → List (ℕ × List ℕ)
-with_bytes row place bytes = slice_set row place ((page_in row place).0, bytes)

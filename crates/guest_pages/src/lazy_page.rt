@@ -8,8 +8,8 @@ ghost use Rattle.guest_pages.specs.LendingPage.{LendsFrame, LendsLazy, LendsPage
 ghost use Rattle.guest_pages.specs.PageBytes.{page_of, HoldsPage};
 
 use crate::page::Page;
+use crate::zero_page::ZeroPage;
 use argo_base::{Bytes, NoMemory};
-use std::alloc::Global;
 use std::marker::Model;
 
 /// The memory of a page, where it has some.
@@ -57,7 +57,7 @@ impl LazyPage {
     }
 
     /// Takes the page's memory, where it has none.
-    pub(crate) fn allocate(&mut self, alloc: Global) -> Result<(), NoMemory>
+    pub(crate) fn allocate(&mut self, zeros: &ZeroPage) -> Result<(), NoMemory>
         ensures ok { OnOk result (self.new ≡ page_of self.old) }
         ensures err { OnErr result (self.new ≡ self.old) }
     {
@@ -65,7 +65,7 @@ impl LazyPage {
             page.bytes();
             return Ok(());
         }
-        self.frame.page = Some(Page::new(alloc)?);
+        self.frame.page = Some(zeros.page()?);
         Ok(())
     }
 
@@ -89,18 +89,18 @@ impl LazyPage {
     }
 
     /// A copy of `n` bytes of the page from an offset on.
-    pub(crate) fn copy(&self, alloc: Global, off: u32, n: u32) -> Result<Bytes, NoMemory>
+    pub(crate) fn copy(&self, zeros: &ZeroPage, off: u32, n: u32) -> Result<Bytes, NoMemory>
         requires { off + n ≤ page_bytes }
         ensures { IfOk result (λ bytes. bytes ≡ take n (drop off (page_of self.now))) }
     {
         let Some(page) = &self.frame.page else {
-            return Ok(Bytes::from_vec(vec![in alloc; 0u8; n as usize]?));
+            return Ok(zeros.copy(off, n)?);
         };
-        Ok(page.copy(alloc, off, n)?)
+        Ok(page.copy(zeros.allocator(), off, n)?)
     }
 
     /// Writes bytes into the page from an offset on.
-    pub(crate) fn write(&mut self, alloc: Global, off: u32, bytes: &[u8]) -> Result<(), NoMemory>
+    pub(crate) fn write(&mut self, zeros: &ZeroPage, off: u32, bytes: &[u8]) -> Result<(), NoMemory>
         requires { off + length bytes.now ≤ page_bytes }
         ensures ok { OnOk result (self.new ≡ splice (page_of self.old) off bytes.now) }
         ensures err { OnErr result (self.new ≡ self.old) }
@@ -109,7 +109,7 @@ impl LazyPage {
             page.write(off, bytes);
             return Ok(());
         }
-        let mut page = Page::new(alloc)?;
+        let mut page = zeros.page()?;
         page.write(off, bytes);
         self.frame.page = Some(page);
         Ok(())
@@ -148,12 +148,12 @@ impl Lent {
     }
 
     /// Takes the page's memory, where a page that has none stands here.
-    pub(crate) fn allocate(&mut self, alloc: Global) -> Result<(), NoMemory>
+    pub(crate) fn allocate(&mut self, zeros: &ZeroPage) -> Result<(), NoMemory>
         ensures ok { OnOk result (self.new ≡ allocated self.old) }
         ensures err { OnErr result (self.new ≡ self.old) }
     {
         if let Some(page) = &mut self.page {
-            page.allocate(alloc)?;
+            page.allocate(zeros)?;
         }
         Ok(())
     }

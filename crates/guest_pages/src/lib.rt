@@ -12,6 +12,7 @@ mod private;
 mod swaps;
 #[cfg(test)]
 mod tests;
+mod zero_page;
 
 pub use lend_fault::LendFault;
 pub use page_row::PageRow;

@@ -1,9 +1,7 @@
 //! One page that has its memory.
 ghost use Rattle.std.specs.Prelude.{◌≡◌, ◌+◌, ◌≤◌, length, take, drop, IfOk};
-ghost use Rattle.std.specs.Borrow.{sem};
 ghost use Rattle.argo_base.specs.Limits.{page_bytes};
 ghost use Rattle.argo_base.specs.Splice.{splice};
-ghost use Rattle.guest_pages.specs.Lending.{LendsBytes};
 ghost use Rattle.guest_pages.specs.PageBytes.{zero_page};
 
 use argo_base::{Bytes, NoMemory};
@@ -13,16 +11,18 @@ use std::marker::Model;
 /// The 4,096 bytes of a page, which stay where they are when the page is moved.
 #[derive(Debug, Drop)]
 pub(crate) struct Page {
-    bytes: Box<[u8; 4096]>,
+    bytes: Bytes,
 }
 
 impl Model for Page {
-    ghost use Rattle.std.specs.Prelude.{ℕ, List};
-    ghost use Rattle.guest_pages.specs.PageBytes.{page_of};
+    ghost use Rattle.std.specs.Prelude.{◌≡◌, ℕ, List, length};
+    ghost use Rattle.argo_base.specs.Limits.{page_bytes};
 
     ghost Value = { List ℕ };
 
-    ghost view = { λ p. page_of p.bytes.value };
+    ghost view = { λ p. p.bytes };
+
+    ghost invariant = { λ p. length p.bytes ≡ page_bytes };
 }
 
 impl Page {
@@ -31,29 +31,24 @@ impl Page {
         ensures { IfOk result (λ p. p ≡ zero_page) }
     {
         Ok(Page {
-            bytes: Box::new(alloc, [0; 4096])?,
+            bytes: Bytes::from_vec(vec![in alloc; 0u8; 4096]?),
         })
     }
 
-    pub(crate) fn bytes(&self) -> &[u8; 4096]
+    /// Another page with the same bytes.
+    pub(crate) fn twin(&self, alloc: Global) -> Result<Self, NoMemory>
+        ensures { IfOk result (λ p. p ≡ self.now) }
+    {
+        Ok(Page {
+            bytes: Bytes::copy_of(alloc, self.bytes())?,
+        })
+    }
+
+    pub(crate) fn bytes(&self) -> &[u8]
         ensures value { result.now ≡ self.now }
         ensures whole { length self.now ≡ page_bytes }
     {
-        let page: &[u8; 4096] = &self.bytes;
-        let is_whole = page[..].len() == 4096;
-        prove!(is_whole);
-        page
-    }
-
-    pub(crate) fn bytes_mut(&mut self) -> &mut [u8; 4096]
-        ensures* writes_back { sem 𝓛 (LendsBytes self.entry result) }
-        ensures value { result.now ≡ self.old }
-        ensures whole { length self.old ≡ page_bytes }
-    {
-        let page: &[u8; 4096] = &self.bytes;
-        let is_whole = page[..].len() == 4096;
-        prove!(is_whole);
-        &mut self.bytes
+        self.bytes.as_slice()
     }
 
     /// A copy of `n` bytes of the page from an offset on.
@@ -83,8 +78,6 @@ impl Page {
         ensures bytes { self.new ≡ splice self.old off bytes.now }
         ensures whole { length self.old ≡ page_bytes }
     {
-        let (_, rest) = self.bytes_mut().split_at_mut(off as usize);
-        let (part, _) = rest.split_at_mut(bytes.len());
-        part.copy_from_slice(bytes);
+        self.bytes.write(off as usize, bytes);
     }
 }

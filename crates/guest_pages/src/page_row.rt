@@ -1,12 +1,10 @@
 //! The pages of a ring, moved by value.
 ghost use Rattle.std.specs.Prelude.{◌≡◌, ◌+◌, ◌*◌, ◌<◌, ◌≤◌, length, take, drop, slice_index, IsTrue};
 ghost use Rattle.std.specs.List.{All};
-ghost use Rattle.std.specs.Borrow.{sem};
 ghost use Rattle.argo_base.specs.Limits.{page_bytes};
 ghost use Rattle.argo_base.specs.Splice.{splice};
-ghost use Rattle.guest_pages.specs.LendingRow.{LendsPageAt};
 ghost use Rattle.argo_base.specs.Numbers.{all_differ};
-ghost use Rattle.guest_pages.specs.Rows.{numbers_of, row_bytes, page_in, with_bytes};
+ghost use Rattle.guest_pages.specs.Rows.{numbers_of, row_bytes, page_in};
 
 use crate::lazy_page::Lent;
 use std::marker::Model;
@@ -47,21 +45,12 @@ impl PageRow {
     }
 
     /// The bytes of the page at a place.
-    pub fn page(&self, place: usize) -> &[u8; 4096]
+    pub fn page(&self, place: usize) -> &[u8]
         requires { place < length self.now }
         ensures value { result.now ≡ (page_in self.now place).1 }
         ensures whole { length result.now ≡ page_bytes }
     {
         self.places[place].page().page().bytes()
-    }
-
-    /// The bytes of the page at a place, to be written. The number stays, and so do all other pages.
-    pub fn page_mut(&mut self, place: usize) -> &mut [u8; 4096]
-        requires { place < length self.old }
-        ensures* writes_back { sem 𝓛 (LendsPageAt self.entry place result) }
-        ensures value { result.now ≡ (page_in self.old place).1 }
-    {
-        self.places[place].page_mut().page_mut().bytes_mut()
     }
 
     /// Copies bytes of the page at a place from an offset on, as many as the buffer takes.

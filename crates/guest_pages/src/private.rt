@@ -7,6 +7,7 @@ ghost use Rattle.guest_pages.specs.Pages.{page_at, with_written, can_lend, row_o
 
 use crate::lazy_page::LazyPage;
 use crate::swaps::{allocate, blanks, swap_back, swap_in};
+use crate::zero_page::ZeroPage;
 use crate::{LendFault, PageRow};
 use argo_base::{Bytes, NoMemory};
 use std::alloc::Global;
@@ -16,6 +17,8 @@ use std::marker::Model;
 #[derive(Debug, Drop)]
 pub struct Private {
     slots: Vec<Option<LazyPage>>,
+    /// What pages that were never written show.
+    zeros: ZeroPage,
 }
 
 impl Model for Private {
@@ -39,7 +42,10 @@ impl Private {
         for _ in 0..count {
             slots.push(Some(LazyPage::new()))?;
         }
-        Ok(Private { slots })
+        Ok(Private {
+            slots,
+            zeros: ZeroPage::new(alloc)?,
+        })
     }
 
     /// The count of the domain's pages, the lent ones too.
@@ -59,7 +65,7 @@ impl Private {
         let Some(Some(page)) = self.slots.get(page as usize) else {
             return Ok(None);
         };
-        Ok(Some(page.copy(*self.slots.allocator(), off, n)?))
+        Ok(Some(page.copy(&self.zeros, off, n)?))
     }
 
     /// Writes into a page from an offset on; false where the page is absent or lent. The first write into a page takes
@@ -73,12 +79,11 @@ impl Private {
         if page >= self.slots.len() as u64 {
             return Ok(false);
         }
-        let alloc = *self.slots.allocator();
         let slot = &mut self.slots[page as usize];
         let Some(page) = slot else {
             return Ok(false);
         };
-        page.write(alloc, off, bytes)?;
+        page.write(&self.zeros, off, bytes)?;
         Ok(true)
     }
 
@@ -93,7 +98,7 @@ impl Private {
         let alloc = *self.slots.allocator();
         let mut places = blanks(alloc, numbers)?;
         swap_in(&mut self.slots, &mut places);
-        let Err(fault) = allocate(alloc, &mut places) else {
+        let Err(fault) = allocate(&self.zeros, &mut places) else {
             return Ok(PageRow { places });
         };
         swap_back(&mut self.slots, &mut places);
@@ -123,7 +128,7 @@ impl Private {
         let PageRow { places: mut back } = old;
         swap_in(&mut self.slots, &mut back);
         swap_in(&mut self.slots, &mut places);
-        let Err(fault) = allocate(alloc, &mut places) else {
+        let Err(fault) = allocate(&self.zeros, &mut places) else {
             return Ok(PageRow { places });
         };
         swap_back(&mut self.slots, &mut places);

@@ -6,6 +6,7 @@ ghost use Rattle.guest_pages.specs.Swaps.{blanks, swapped_in, swapped_back};
 
 use crate::LendFault;
 use crate::lazy_page::{LazyPage, Lent};
+use crate::zero_page::ZeroPage;
 use argo_base::NoMemory;
 use std::alloc::Global;
 use std::mem;
@@ -81,18 +82,18 @@ pub(crate) fn swap_back(pages: &mut Vec<Option<LazyPage>>, row: &mut Vec<Lent>)
 }
 
 // Each page of the row takes its memory. Where memory runs out, some have taken theirs.
-fn allocate_places(alloc: Global, row: &mut [Lent]) -> Result<(), NoMemory>
+fn allocate_places(zeros: &ZeroPage, row: &mut [Lent]) -> Result<(), NoMemory>
     ensures ok { OnOk result (row.new ≡ map allocated row.old) }
     ensures err { OnErr result (Each IsGrownPlace row.old row.new) }
 {
     for place in row.iter_mut() {
-        place.allocate(alloc)?;
+        place.allocate(zeros)?;
     }
     Ok(())
 }
 
 /// Each page of a full row takes its memory. Where memory runs out, some have taken theirs, and their bytes are zero still.
-pub(crate) fn allocate(alloc: Global, row: &mut Vec<Lent>) -> Result<(), LendFault>
+pub(crate) fn allocate(zeros: &ZeroPage, row: &mut Vec<Lent>) -> Result<(), LendFault>
     ensures full { OnOk result (IsTrue (list_all (λ e. is_some e.page) row.old.items)) }
     ensures ok { OnOk result (row.new.items ≡ map allocated row.old.items) }
     ensures pages { result ≡ Err LendFault.Pages
@@ -102,6 +103,6 @@ pub(crate) fn allocate(alloc: Global, row: &mut Vec<Lent>) -> Result<(), LendFau
     if !is_full(row.as_slice()) {
         return Err(LendFault::Pages);
     }
-    allocate_places(alloc, row.as_mut_slice())?;
+    allocate_places(zeros, row.as_mut_slice())?;
     Ok(())
 }

@@ -24,3 +24,4 @@ pub mod MemoryLaws
 pub mod AloneLaws
 pub mod SizeLaws
 pub mod FetchLaws
+pub mod SlotLaws

@@ -65,15 +65,18 @@ pub(crate) fn lines_of(alloc: Global, notices: &[(DomId, u32)]) -> Result<Notice
     Ok(lines)
 }
 
-// The slot bytes of a ring on these pages.
+// The slot bytes of a ring on these pages, each copied once.
 fn slots_of(alloc: Global, row: &PageRow, len: u32) -> Result<Bytes, NoMemory>
     ensures { IfOk result (λ bytes. bytes ≡ take len (drop 64 (row_bytes row.now))) }
 {
-    let mut bytes = Bytes::new(alloc);
+    let mut bytes = Bytes::from_vec(Vec::with_capacity(alloc, len as usize)?);
+    let mut header = 64;
     for place in 0..row.count() {
-        bytes.append(row.page(place))?;
+        let page = row.page(place);
+        bytes.append(first(after(page, header), len as usize - bytes.len()))?;
+        header = 0;
     }
-    Bytes::copy_of(alloc, first(after(bytes.as_slice(), 64), len as usize))
+    Ok(bytes)
 }
 
 // The bytes after the first n.

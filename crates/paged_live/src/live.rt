@@ -6,7 +6,7 @@ ghost use Rattle.argo_model.specs.Rules.Effects as effects;
 ghost use Rattle.guest_pages.specs.Rows.{row_bytes};
 
 use crate::home::{Home, home_at};
-use argo_base::{Bytes, DomId, NoMemory, PAGE_BYTES};
+use argo_base::{Bytes, DomId, NoMemory};
 use argo_model::Outcome;
 use guest_pages::Private;
 use ring_core::Ring;
@@ -95,11 +95,9 @@ fn read(alloc: Global, ring: &Ring, place: u32, off: u32, n: u32) -> Result<Byte
     ensures { IfOk result
         (λ bytes. bytes ≡ take n (drop (page_bytes * place + off) (row_bytes ring.now.row))) }
 {
-    if n == 0 {
-        return Ok(Bytes::new(alloc));
-    }
-    ring.len();
-    let mut bytes = vec![in alloc; 0u8; n as usize]?;
-    ring.read(PAGE_BYTES * place + off, bytes.as_mut_slice());
-    Ok(Bytes::from_vec(bytes))
+    let row = ring.row();
+    row.count();
+    let (_, rest) = row.page(place as usize).split_at(off as usize);
+    let (part, _) = rest.split_at(n as usize);
+    Ok(Bytes::copy_of(alloc, part)?)
 }

@@ -1,18 +1,11 @@
 -- Rows of slot bytes that are zero, and rows that follow one another.
-use Rattle.std.proofs.Common.{◌≡◌, ℕ, suc, zero, ◌+◌, ◌-◌, ◌*◌, ◌≤◌, ◌==◌, ◌&&◌, Bool, true, false, if◌then◌else◌, List, [], ◌∷◌, ◌++◌, length, take, drop, replicate, append_assoc, refl, sym, ap, ◌∙◌, arith}
+use Rattle.std.proofs.Common.{◌≡◌, ℕ, suc, zero, ◌+◌, ◌-◌, ◌*◌, ◌≤◌, ◌==◌, ◌&&◌, Bool, true, false, if◌then◌else◌, List, [], ◌++◌, take, drop, append_assoc, refl, sym, ap, ◌∙◌, arith}
 use Rattle.std.proofs.Math.Seq.{take-add}
 use Rattle.std.proofs.lemmas.List.{drop-drop}
 use Rattle.std.proofs.lemmas.List.Folds.{list_all-append}
 use Rattle.std.specs.List.{list_all}
-use Rattle.std.specs.Str.{bytes_eq}
 use Rattle.argo_model.specs.Runs.Report.{slots_at, slots_line}
 use Rattle.report_text.specs.Lines.{rows_text}
-
--- bytes are zeros just where each of them is
-pub all_zero : (bytes : List ℕ) (n : ℕ) → length bytes ≤ n → bytes_eq bytes (take (length bytes) (replicate n 0)) ≡ list_all (λ b. b == 0) bytes
-all_zero [] n few = refl
-all_zero (b ∷ bytes) zero few = absurd (omega (arith, few))
-all_zero (b ∷ bytes) (suc n) few = ap (λ r. (b == 0) && r) (all_zero bytes n (omega (arith, few)))
 
 both_are : (a b : Bool) → (a && b) ≡ true → (a ≡ true) × (b ≡ true)
 both_are true true e = (refl, refl)

@@ -1,5 +1,5 @@
-//! Puts into the pages of a ring, and reads of them.
-ghost use Rattle.std.specs.Prelude.{◌≡◌, ◌+◌, ◌*◌, ◌%◌, ◌<◌, ◌≤◌, length, take, drop};
+//! Puts into the pages of a ring.
+ghost use Rattle.std.specs.Prelude.{◌≡◌, ◌+◌, ◌*◌, ◌%◌, ◌<◌, ◌≤◌, length};
 ghost use Rattle.argo_base.specs.Limits.{page_bytes};
 ghost use Rattle.argo_base.specs.Slots.{page_count};
 ghost use Rattle.argo_base.specs.Splice.{splice};
@@ -31,16 +31,6 @@ impl Ring {
         let touched = touches(self.len, at, bytes.len());
         self.clean = keep(&mut self.untaken, moved, touched);
         write_at(&mut self.row, at, bytes);
-    }
-
-    /// Copies bytes of the ring from a byte of it on, inside one of its pages, as many as the buffer takes.
-    pub fn read(&self, at: u32, buf: &mut [u8])
-        requires inside { at < page_bytes * page_count self.now.len }
-        requires in_page { at % page_bytes + length buf.old ≤ page_bytes }
-        ensures { buf.new ≡ take (length buf.old) (drop at (row_bytes self.now.row)) }
-    {
-        self.row
-            .read((at / PAGE_BYTES) as usize, at % PAGE_BYTES, buf);
     }
 }
 

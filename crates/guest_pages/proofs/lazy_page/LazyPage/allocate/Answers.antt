@@ -12,4 +12,4 @@ returns-in-Some-clause-ok c =
 pub returns-clause-ok : goal.returns-clause-ok
 returns-clause-ok c =
     let none : c.args.self.now ≡ [] = sym c.self.view_is ∙ ap (λ o. unwrap_or o []) c.in_default.is in
-    c.in_ok-new.ensures ∙ sym page_of_none ∙ ap page_of (sym none)
+    c.in_ok-page.ensures ∙ sym page_of_none ∙ ap page_of (sym none)

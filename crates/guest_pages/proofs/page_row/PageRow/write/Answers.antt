@@ -2,9 +2,9 @@ use Rattle.std.proofs.Common.{◌≡◌, [], ◌∙◌, ap, sym, length, arith}
 use Rattle.std.specs.Prelude.{unwrap_or}
 use Rattle.argo_base.specs.Splice.{splice}
 use Rattle.argo_base.proofs.SpliceLaws.{length-splice}
-use Rattle.guest_pages.specs.Rows.{numbers_of, row_bytes, page_in, with_bytes}
+use Rattle.guest_pages.specs.Rows.{numbers_of, row_bytes, page_in}
 use Rattle.guest_pages.proofs.FlatLaws.{length-row_bytes, numbers_of-with_bytes, row_bytes-with_bytes}
-use Rattle.guest_pages.proofs.RowLaws.{page_in-numbered, row_whole, row_with_bytes, with_bytes-numbered}
+use Rattle.guest_pages.proofs.RowLaws.{page_in-numbered, row_whole, row_with_bytes, with_bytes, with_bytes-numbered}
 use Rattle.guest_pages.proofs.page_row.PageRow.write.Goals as goal
 
 -- the page that was there, as the row has it
