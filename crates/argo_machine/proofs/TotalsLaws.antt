@@ -1,5 +1,5 @@
 -- Laws of the totals of the sections, after one step more and of all steps.
-use Rattle.std.proofs.Common.{◌≡◌, ◌≢◌, ℕ, zero, suc, ◌+◌, ◌-◌, ◌<◌, ◌≤◌, Bool, true, false, cond, eqb, List, [], ◌∷◌, ◌++◌, length, set, map, sum_by, count_by, Some, slice_get, refl, sym, ap, ◌∙◌, arith, add-zero, if◌then◌else◌, ⊎_elim}
+use Rattle.std.proofs.Common.{◌≡◌, ◌≢◌, ℕ, zero, suc, ◌+◌, ◌<◌, ◌≤◌, Bool, true, false, cond, eqb, List, [], ◌∷◌, ◌++◌, length, set, map, sum_by, count_by, Some, slice_get, refl, sym, ap, ◌∙◌, arith, add-zero, if◌then◌else◌, ⊎_elim}
 use Rattle.std.proofs.lemmas.Bool.{cases_eq}
 use Rattle.std.proofs.lemmas.List.Sums.{sum_by-cons, sum_by_push}
 use Rattle.std.specs.List.{range_with_len}
@@ -8,7 +8,7 @@ use Rattle.argo_model.specs.declared.action.Outcome.{Outcome}
 use Rattle.argo_model.specs.declared.closing.Totals.{Totals}
 use Rattle.argo_model.specs.Rules.Access.{counted_of, counted_at}
 use Rattle.argo_model.specs.Runs.Script.{Section}
-use Rattle.argo_model.specs.Runs.Run.{Step, step}
+use Rattle.argo_model.specs.Runs.Run.{Step}
 use Rattle.argo_model.specs.Runs.Final.{totals_of, accepted_size, is_accepted, size_or_none, totals_after, no_steps}
 use Rattle.argo_machine.proofs.BookLaws.{set-map-range}
 use Rattle.argo_machine.proofs.TestLaws.{same_number, other_number}

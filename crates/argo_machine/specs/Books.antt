@@ -1,5 +1,5 @@
 -- What a machine writes down of its steps.
-use Rattle.std.specs.Prelude.{◌≡◌, ℕ, ◌++◌, ◌<◌, List, Option, vec_len, vec_capacity}
+use Rattle.std.specs.Prelude.{◌≡◌, ℕ, ◌++◌, ◌<◌, Option, vec_len, vec_capacity}
 use Rattle.argo_model.specs.declared.reply.Reply.{Reply}
 use Rattle.argo_model.specs.Runs.Final.{grown, done_lines}
 use Rattle.argo_machine.specs.declared.books.Books.{Books}

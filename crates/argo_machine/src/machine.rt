@@ -9,7 +9,7 @@ ghost use Rattle.argo_machine.specs.Machine.{OneStep};
 
 use crate::books::Books;
 use crate::replies::heard_of_all;
-use crate::vcpus::vcpus_of;
+use crate::vcpus::{lines_of, vcpus_of};
 use argo_base::NoMemory;
 use argo_model::{
     ClosedDomains, DomainLines, DoneList, Final, Heard, Outcome, Runs, Scripts, SerialWorld,
@@ -46,6 +46,7 @@ impl<W: SerialWorld> Machine<W> {
         ensures left { IfOk result (λ m. m.left < 2 ^ 32) }
     {
         let vcpus = vcpus_of(alloc, scripts.parts.as_slice())?;
+        let books = Books::with_room(alloc, lines_of(scripts.parts.as_slice()))?;
         let domains = DomainLines::copy_of(alloc, scripts.domains.as_slice())?;
         let world = W::start(alloc, scripts)?;
         Ok(Machine {
@@ -54,7 +55,7 @@ impl<W: SerialWorld> Machine<W> {
             kept: Kept {
                 vcpus,
                 world,
-                books: Books::new(alloc),
+                books,
             },
             alloc,
         })

@@ -21,3 +21,12 @@ pub(crate) fn vcpus_of(alloc: Global, parts: &[Part]) -> Result<Vec<Vcpu>, NoMem
     }
     Ok(vcpus)
 }
+
+/// How many lines these sections have.
+pub(crate) fn lines_of(parts: &[Part]) -> usize {
+    let mut lines = 0usize;
+    for part in parts {
+        lines = lines.saturating_add(part.lines.len());
+    }
+    lines
+}

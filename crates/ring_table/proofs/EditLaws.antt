@@ -112,7 +112,7 @@ module _ {T : Type 0} (bs : List (Bucket T)) (are : AreBuckets 0 bs) (key : Ring
 
   pub table_after : (n m : ℕ) → IsTable bs n → m ≡ length (rows_in (slice_set bs j b)) → m ≤ most_rows → IsTable (slice_set bs j b) m
   table_after n m t counted most = record {
-    whole = subst (λ k. (k ≡ 0) ⊎ (k ≡ 32)) (sym edited_length) t.whole;
+    whole = subst (λ k. (k ≡ 0) ⊎ (k ≡ 8)) (sym edited_length) t.whole;
     buckets = edited_buckets;
     counted = counted;
     most = most;

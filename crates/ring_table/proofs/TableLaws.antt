@@ -120,7 +120,7 @@ module _ {T : Type 0} where
 
   pub kept_table : (bs : List (Bucket T)) (n : ℕ) (j : ℕ) (d b : Bucket T) → IsTable bs n → b.entries ≡ (slice_index_or bs j d).entries → IsTable (slice_set bs j b) n
   kept_table bs n j d b t e = record {
-    whole = subst (λ k. (k ≡ 0) ⊎ (k ≡ 32)) (sym (length-set bs j b)) t.whole;
+    whole = subst (λ k. (k ≡ 0) ⊎ (k ≡ 8)) (sym (length-set bs j b)) t.whole;
     buckets = kept_buckets 0 bs j d b t.buckets e;
     counted = t.counted ∙ ap length (sym (kept_rows bs j d b e));
     most = t.most;

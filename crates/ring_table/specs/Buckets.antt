@@ -9,7 +9,7 @@ use Rattle.ring_table.specs.Rows.{Held, held_of, most_rows}
 
 -- the bucket of a key
 abbrev pub bucket_of : RingKey → ℕ
-bucket_of key = (key.port + key.partner) % 32
+bucket_of key = (key.port + key.partner) % 8
 
 module _ {X : Type 0} where
   -- the second entries, with the first put in at their places
@@ -39,7 +39,7 @@ module _ {T : Type 0} where
 
   -- no buckets or all, and so many rows
   pub record IsTable (bs : List (BTreeMap RingKey (Row T))) (count : ℕ) : Type 0 where
-    pub whole : (length bs ≡ 0) ⊎ (length bs ≡ 32)
+    pub whole : (length bs ≡ 0) ⊎ (length bs ≡ 8)
     pub buckets : AreBuckets 0 bs
     pub counted : count ≡ length (rows_in bs)
     pub most : count ≤ most_rows
@@ -51,5 +51,5 @@ AreEmpty (b ∷ bs) = (b.entries ≡ []) × AreEmpty bs
 
 -- all the buckets: the old ones, or new ones in the place of none
 pub record Made {X : Type 0} (old new : List (BTreeMap RingKey X)) : Type 0 where
-  pub whole : length new ≡ 32
+  pub whole : length new ≡ 8
   pub same : (new ≡ old) ⊎ ((length old ≡ 0) × AreEmpty new)

@@ -21,7 +21,7 @@ use std::marker::Model;
 /// The most rows of a table: the most rings that a domain may have.
 pub const MOST_ROWS: u32 = 128;
 
-const BUCKETS: usize = 32;
+const BUCKETS: usize = 8;
 
 type Bucket<T> = BTreeMap<RingKey, Row<T>>;
 
@@ -48,9 +48,9 @@ impl<T> Model for Table<T> {
 // The bucket of a key.
 fn bucket_of(key: RingKey) -> usize
     ensures which { result ≡ buckets.bucket_of key }
-    ensures below { result < 32 }
+    ensures below { result < 8 }
 {
-    (((key.port as u64) + (key.partner.0 as u64)) % 32) as usize
+    (((key.port as u64) + (key.partner.0 as u64)) % 8) as usize
 }
 
 impl<T> Table<T> {

@@ -1,11 +1,13 @@
 -- Laws of sendv.
-use Rattle.std.proofs.Common.{◌≡◌, ℕ, Vec, Global, ◌+◌, ◌-◌, ◌*◌, ◌≤◌, true, false, cond, nat_lt, List, [], ◌∷◌, ◌++◌, IsTrue, length, take, Result, Ok, Err, refl, sym, ap, ◌∙◌, subst, arith, length-append, length-take}
+use Rattle.std.proofs.Common.{◌≡◌, ℕ, zero, suc, map, Vec, Global, ◌+◌, ◌-◌, ◌*◌, ◌<◌, ◌≤◌, true, false, cond, nat_lt, List, [], ◌∷◌, ◌++◌, IsTrue, length, drop, Result, Ok, Err, refl, sym, ap, ◌∙◌, subst, arith, length-append}
+use Rattle.std.specs.List.{range_with_len}
+use Rattle.std.proofs.lemmas.List.FromFn.{length-map-range_with_len}
 use Rattle.std.proofs.lemmas.List.Sums.{sum_by-cons}
 use Rattle.argo_base.specs.declared.errno.Errno.{Errno}
 use Rattle.argo_base.specs.declared.errno.Errno.TheVariants.{Inval, MsgSize}
 use Rattle.argo_base.specs.Pieces.{pieces}
 use Rattle.argo_base.specs.Layout.{u16_at, u32_at}
-use Rattle.argo_base.specs.Iovs.{Iov, is_bad_iov, judged, verdict_of, gathered_pieces}
+use Rattle.argo_base.specs.Iovs.{Iov, iov_at, iovs_at, is_bad_iov, judged, verdict_of, gathered_pieces}
 use Rattle.argo_base.specs.Limits.{longest_body}
 use Rattle.vcpu_machine.specs.declared.cursor.Cursor.{Cursor}
 use Rattle.argo_model.specs.declared.action.Load.TheVariants.{Body as BodyLoad, Faulted}
@@ -21,8 +23,9 @@ use Rattle.vcpu_machine.specs.Cursor.{pieces_left, IsSound}
 use Rattle.argo_model.specs.Rules.Fit.{is_verdict}
 use Rattle.argo_model.specs.Programs.Asks.{collect}
 use Rattle.vcpu_machine.specs.Reader.{after_read}
-use Rattle.vcpu_machine.specs.Sending.{deliver_to, send_judged_to, iovs_left, bytes_of, IsFirstBuffer, IsGather}
+use Rattle.vcpu_machine.specs.Sending.{deliver_to, send_judged_to, iovs_left, bytes_of, IsFirstBuffer, SkipsTo, IsGather}
 use Rattle.vcpu_machine.specs.Followed.{Leads}
+use Rattle.vcpu_machine.proofs.ListLaws.{none_left}
 use Rattle.vcpu_machine.proofs.RangeLaws.{collect-append, collect-same, pieces-within}
 
 -- the verdict is one of two refusals
@@ -67,12 +70,12 @@ judged_to kind addr vs (Ok n) os = refl
 judged_to kind addr vs (Err e) os = refl
 
 -- the first of the buffers is fetched, and then the others
-pub buffer_leads : (g : Gather) (c : Cursor) (place : ℕ) (v : Iov) (got : Vec ℕ Global) → IsGather g → IsFirstBuffer (take g.count g.iovs) g.next place v
+pub buffer_leads : (g : Gather) (c : Cursor) (place : ℕ) (v : Iov) (got : Vec ℕ Global) → IsGather g → IsFirstBuffer (iovs_at g.list.items g.count) g.next place v
     → pieces_left c ≡ pieces v.hnd v.len → c.left ≡ v.len → IsSound c → length got.items + g.later ≡ g.size
     → Leads (gather (gathered_pieces (iovs_left g)) got.items g.size (deliver_to g.address)) (length (gathered_pieces (iovs_left g)) + 1)
-    (To (Reading c got (Send (Body (record { iovs = g.iovs; count = g.count; next = place + 1; later = g.later - v.len; size = g.size; address = g.address })))))
+    (To (Reading c got (Send (Body (record { list = g.list; count = g.count; next = place + 1; later = g.later - v.len; size = g.size; address = g.address })))))
 buffer_leads g c place v got ready first same left sound size =
-    let later : Gather = record { iovs = g.iovs; count = g.count; next = place + 1; later = g.later - v.len; size = g.size; address = g.address } in
+    let later : Gather = record { list = g.list; count = g.count; next = place + 1; later = g.later - v.len; size = g.size; address = g.address } in
     let ps = pieces_left c in
     let qs = gathered_pieces (iovs_left later) in
     let k = deliver_to g.address in
@@ -89,8 +92,9 @@ buffer_leads g c place v got ready first same left sound size =
         sound = sound;
         size = omega arith;
         ready = record {
+          listed = ready.listed;
           count_within = ready.count_within;
-          next_within = let within = first.within in let long = length-take g.count g.iovs in omega (arith, within, long);
+          next_within = let within = first.within in let long = length-map-range_with_len (iov_at g.list.items) 0 g.count in omega (arith, within, long);
           size_within = ready.size_within;
           later_is = omega (arith, bytes);
           later_within = let within = ready.later_within in omega arith;
@@ -98,3 +102,54 @@ buffer_leads g c place v got ready first same left sound size =
       };
       few = let long = ap length parts ∙ length-append ps qs in omega (arith, long);
     }
+
+-- from a place on, the values at some numbers are that at the place and then the rest
+drop_mapped : {X : Type 0} (f : ℕ → X) (a n i : ℕ) → i < n → drop i (map f (range_with_len a n)) ≡ f (a + i) ∷ drop (i + 1) (map f (range_with_len a n))
+drop_mapped f a zero i within = absurd (omega arith)
+drop_mapped f a (suc m) zero within = let first : a ≡ a + 0 = omega arith in ap (λ b. f b ∷ map f (range_with_len (a + 1) m)) first
+drop_mapped f a (suc m) (suc i) within =
+    let later : a + 1 + i ≡ a + suc i = omega arith in
+    let next : suc (i + 1) ≡ suc i + 1 = omega arith in
+    drop_mapped f (a + 1) m i (omega arith)
+    ∙ ap (λ b. f b ∷ drop (i + 1) (map f (range_with_len (a + 1) m))) later
+    ∙ ap (λ j. f (a + suc i) ∷ drop j (map f (range_with_len a (suc m)))) next
+
+module _ (list : List ℕ) (count from place : ℕ) (within : place < count) (skips : SkipsTo (iovs_at list count) from place) where
+  abbrev here : Iov
+  here = iov_at list place
+
+  abbrev later : List Iov
+  later = drop (place + 1) (iovs_at list count)
+
+  from_here : drop place (iovs_at list count) ≡ here ∷ later
+  from_here = let none : 0 + place ≡ place = omega arith in drop_mapped (iov_at list) 0 count place within ∙ ap (λ n. iov_at list n ∷ later) none
+
+  bytes_here : bytes_of (drop from (iovs_at list count)) ≡ here.len + bytes_of later
+  bytes_here = skips.bytes_are ∙ ap bytes_of from_here ∙ sum_by-cons (λ (w : Iov). w.len) here later
+
+  pieces_here : gathered_pieces (drop from (iovs_at list count)) ≡ pieces here.hnd here.len ++ gathered_pieces later
+  pieces_here = skips.pieces_are ∙ ap gathered_pieces from_here
+
+  -- a buffer without bytes is passed over
+  pub skips_more : here.len ≡ 0 → SkipsTo (iovs_at list count) from (place + 1)
+  skips_more none = record {
+    pieces_are = pieces_here ∙ ap (λ n. pieces here.hnd n ++ gathered_pieces later) none;
+    bytes_are = let bytes = bytes_here in omega (arith, bytes, none);
+  }
+
+  -- one with bytes is the first
+  pub first_here : 0 < here.len → IsFirstBuffer (iovs_at list count) from place here
+  first_here some = record {
+    within = let long = length-map-range_with_len (iov_at list) 0 count in omega (arith, within, long);
+    some = some;
+    pieces_are = pieces_here;
+    bytes_are = bytes_here;
+  }
+
+-- where all are passed over, none has bytes
+pub skipped_all : (list : List ℕ) (count from place : ℕ) → SkipsTo (iovs_at list count) from place → count ≤ place
+    → (gathered_pieces (drop from (iovs_at list count)) ≡ []) × (bytes_of (drop from (iovs_at list count)) ≡ 0)
+skipped_all list count from place skips past =
+    let long = length-map-range_with_len (iov_at list) 0 count in
+    let none = none_left (iovs_at list count) place (omega (arith, past, long)) in
+    (skips.pieces_are ∙ ap gathered_pieces none, skips.bytes_are ∙ ap bytes_of none)

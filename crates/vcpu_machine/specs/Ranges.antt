@@ -1,5 +1,5 @@
 -- One outcome of a range that is put or fetched piece by piece.
-use Rattle.std.specs.Prelude.{◌≡◌, ℕ, ◌-◌, ◌<◌, ◌≤◌, min, List, [], ◌∷◌, ◌++◌, length, drop, ◌+◌, ◌==◌, if◌then◌else◌, vec_len, vec_capacity, Vec}
+use Rattle.std.specs.Prelude.{◌≡◌, ℕ, ◌-◌, ◌<◌, ◌≤◌, min, List, [], ◌∷◌, length, drop, ◌+◌, ◌==◌, if◌then◌else◌, vec_len, vec_capacity, Vec}
 use Rattle.std.specs.declared.alloc.Global.{Global}
 use Rattle.argo_base.specs.declared.piece.Piece.{Piece}
 use Rattle.vcpu_machine.specs.declared.cursor.Cursor.{Cursor}

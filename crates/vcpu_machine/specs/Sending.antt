@@ -1,5 +1,5 @@
 -- What follows the fetches of sendv.
-use Rattle.std.specs.Prelude.{◌≡◌, ℕ, ◌+◌, ◌-◌, ◌*◌, ◌<◌, ◌≤◌, Bool, ◌&&◌, ◌||◌, ◌==◌, List, [], ◌++◌, length, take, drop, sum_by, Option, Some, None, Result, Ok, Err}
+use Rattle.std.specs.Prelude.{◌≡◌, ℕ, ◌+◌, ◌-◌, ◌*◌, ◌<◌, ◌≤◌, Bool, ◌&&◌, ◌||◌, ◌==◌, List, [], ◌++◌, length, drop, sum_by, Option, Some, None, Result, Ok, Err}
 use Rattle.argo_base.specs.declared.errno.Errno.{Errno}
 use Rattle.argo_base.specs.declared.errno.Errno.TheVariants.{Fault as efault}
 use Rattle.argo_base.specs.Pieces.{pieces}
@@ -46,7 +46,7 @@ bytes_of iovs = sum_by (λ v. v.len) iovs
 
 -- those that a gather has still to come to
 abbrev pub iovs_left : Gather → List Iov
-iovs_left g = drop g.next (take g.count g.iovs)
+iovs_left g = drop g.next (iovs_at g.list.items g.count)
 
 -- from a place on, this is the first buffer that has bytes
 pub record IsFirstBuffer (iovs : List Iov) (from place : ℕ) (v : Iov) : Type 0 where
@@ -67,6 +67,7 @@ pub record SkipsTo (iovs : List Iov) (from place : ℕ) : Type 0 where
 
 -- the buffers are there, and the body is no longer than the longest
 pub record IsGather (g : Gather) : Type 0 where
+  pub listed : length g.list.items ≡ 16 * g.count
   pub count_within : g.count ≤ 8
   pub next_within : g.next ≤ g.count
   pub size_within : g.size ≤ longest_body

@@ -7,7 +7,7 @@ use argo_model::{Line, Lines, Part};
 use std::alloc::Global;
 
 /// A part with copies of its lines.
-pub(crate) fn copy_of_part(alloc: Global, part: &Part) -> Result<Part, NoMemory>
+pub fn copy_of_part(alloc: Global, part: &Part) -> Result<Part, NoMemory>
     ensures { IfOk result (λ copy. copy ≡ part.now) }
 {
     let lines = copy_of_lines(alloc, part.lines.as_slice())?;

@@ -26,5 +26,6 @@ mod short;
 mod text;
 mod vcpu;
 
+pub use copies::copy_of_part;
 pub use short::short_of;
 pub use vcpu::Vcpu;

@@ -20,11 +20,20 @@ pub(crate) fn reading(alloc: Global, rest: Cursor, reader: Reader) -> Phase
     requires ready { IsReader reader }
     ensures { Reads (pieces_left rest) reader result }
 {
-    Phase::Reading {
-        rest,
-        got: Vec::new(alloc),
-        reader,
-    }
+    reading_into(Vec::new(alloc), rest, reader)
+}
+
+/// As `reading`, into memory that is there already.
+pub(crate) fn reading_into(memory: Vec<u8>, rest: Cursor, reader: Reader) -> Phase
+    requires some { 0 < rest.left }
+    requires sound { IsSound rest }
+    requires size { HasSize rest.left reader }
+    requires ready { IsReader reader }
+    ensures { Reads (pieces_left rest) reader result }
+{
+    let mut got = memory;
+    got.clear();
+    Phase::Reading { rest, got, reader }
 }
 
 /// A hypercall's refusal.

@@ -1,6 +1,5 @@
 //! What the fetches of hypercalls are for.
 
-use argo_abi::Iov;
 use argo_base::DomId;
 
 /// The buffers that one sendv takes at most.
@@ -36,12 +35,13 @@ pub(crate) struct Address {
     pub(crate) kind: u32,
 }
 
-/// What is left of a gather after the buffer that is being fetched: the first `count` buffers, from the place `next` on.
+/// What is left of a gather after the buffer that is being fetched: of `count` buffers, those from the place `next` on.
 #[derive(Drop)]
 pub(crate) struct Gather {
-    pub(crate) iovs: [Iov; MOST_IOVS],
-    pub(crate) count: usize,
-    pub(crate) next: usize,
+    /// The buffers as they were fetched, 16 bytes each.
+    pub(crate) list: Vec<u8>,
+    pub(crate) count: u32,
+    pub(crate) next: u32,
     /// The bytes of those buffers.
     pub(crate) later: u32,
     /// The size of the whole body.

@@ -9,7 +9,7 @@ ghost use Rattle.vcpu_machine.specs.Followed.{Leads};
 use crate::cursor::Cursor;
 use crate::layout::{iov, send_addr};
 use crate::phase::{Followed, Phase, Question, Reader};
-use crate::reading::{reading, refusal};
+use crate::reading::{reading_into, refusal};
 use crate::reads::{Address, Gather, MOST_IOVS, SendArgs, SendRead};
 use argo_abi::{Iov, SendAddr};
 use argo_base::{Bytes, DomId, Errno};
@@ -36,11 +36,12 @@ impl Address {
 impl SendRead {
     ghost use Rattle.vcpu_machine.specs.Sending.{after_send_read, after_send_fault, send_size, IsSendRead, most_after_send};
 
-    /// How many bytes are to be fetched after the range that is being fetched.
+    /// How many bytes more than those of the range that is being fetched are to be fetched into the same memory.
     pub(crate) fn later(&self) -> u32 {
         match self {
+            SendRead::Head(args) => args.count.saturating_sub(1).saturating_mul(16),
+            SendRead::Iovs { .. } => 0,
             SendRead::Body(gather) => gather.later,
-            _ => 0,
         }
     }
 
@@ -78,17 +79,17 @@ impl Gather {
         requires size { length got.items + self.later ≡ self.size }
         ensures { Leads (gather_on self got.items) (gather_left self) result }
     {
-        let (iovs, _) = self.iovs.split_at(self.count);
-        let Some((place, iov)) = next_buffer(iovs, self.next) else {
+        let list = self.list.as_slice();
+        let Some((place, iov)) = next_buffer(list, self.next, self.count) else {
             return deliver(self.address, Load::Body(Bytes::from_vec(got)));
         };
         self.buffer(place, iov, got)
     }
 
     // The buffer at a place is fetched, which is the first of those left that has bytes.
-    fn buffer(self, place: usize, iov: Iov, got: Vec<u8>) -> Followed
+    fn buffer(self, place: u32, iov: Iov, got: Vec<u8>) -> Followed
         requires ready { IsGather self }
-        requires first { IsFirstBuffer (take self.count self.iovs) self.next place iov }
+        requires first { IsFirstBuffer (iovs_at self.list.items self.count) self.next place iov }
         requires size { length got.items + self.later ≡ self.size }
         ensures { Leads (gather_on self got.items) (gather_left self) result }
     {
@@ -141,7 +142,7 @@ fn head(alloc: Global, got: Vec<u8>, args: SendArgs) -> Followed
     }
     let rest = Cursor::over(args.iovs, 16 * count);
     let reader = Reader::Send(SendRead::Iovs { count, address });
-    Followed::To(reading(alloc, rest, reader))
+    Followed::To(reading_into(got, rest, reader))
 }
 
 // Whether both pads are 0.
@@ -171,8 +172,8 @@ fn judged(alloc: Global, list: Vec<u8>, count: u32, address: Address) -> Followe
         Err(e) => deliver(address, Load::Refused(e)),
         Ok(size) => {
             let gather = Gather {
-                iovs,
-                count: count as usize,
+                list,
+                count,
                 next: 0,
                 later: size,
                 size,
@@ -211,15 +212,16 @@ fn read_iov(list: &[u8], place: usize) -> Iov
     iov(here)
 }
 
-// The first buffer from a place on that has bytes, with its place.
-fn next_buffer(iovs: &[Iov], from: usize) -> Option<(usize, Iov)>
-    requires { from ≤ length iovs.now }
-    ensures { IsNextBuffer iovs.now from result }
+// The first of so many buffers of a list that has bytes, from a place on, with its place.
+fn next_buffer(list: &[u8], from: u32, count: u32) -> Option<(u32, Iov)>
+    requires size { length list.now ≡ 16 * count }
+    requires within { from ≤ count }
+    ensures { IsNextBuffer (iovs_at list.now count) from result }
 {
-    for i in from..iovs.len() {
-        let iov = iovs[i];
+    for place in from..count {
+        let iov = read_iov(list, place as usize);
         if iov.len != 0 {
-            return Some((i, iov));
+            return Some((place, iov));
         }
     }
     None

@@ -43,15 +43,23 @@ impl Vcpu {
         requires turns { sum_by turns_of p.now.lines ≤ 1048576 }
         ensures { IfOk result (λ v. Begun p.now v) }
     {
-        let part = copy_of_part(alloc, p)?;
+        Ok(Vcpu::taking(alloc, copy_of_part(alloc, p)?))
+    }
+
+    /// As `new`, of a section that is given away.
+    pub fn taking(alloc: Global, part: Part) -> Vcpu
+        requires lines { length part.lines ≤ 8192 }
+        requires turns { sum_by turns_of part.lines ≤ 1048576 }
+        ensures { Begun part result }
+    {
         let phase = phase_at(alloc, &part, 0);
-        Ok(Vcpu {
+        Vcpu {
             alloc,
             part,
             done: 0,
             phase,
             ready: false,
-        })
+        }
     }
 
     /// Whether no line is left.

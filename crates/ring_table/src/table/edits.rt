@@ -80,7 +80,7 @@ impl<T: Drop> Table<T> {
 
 // Makes all the buckets where there are none.
 fn make_buckets<T: Drop>(buckets: &mut Vec<Bucket<T>>) -> Result<(), NoMemory>
-    requires { (length buckets.old.items ≡ 0) ⊎ (length buckets.old.items ≡ 32) }
+    requires { (length buckets.old.items ≡ 0) ⊎ (length buckets.old.items ≡ 8) }
     ensures ok { OnOk result (Made buckets.old.items buckets.new.items) }
     ensures err { OnErr result (buckets.new.items ≡ buckets.old.items) }
 {
@@ -92,7 +92,7 @@ fn make_buckets<T: Drop>(buckets: &mut Vec<Bucket<T>>) -> Result<(), NoMemory>
 
 // All the buckets, with nothing in them.
 fn empty_buckets<T: Drop>(alloc: Global) -> Result<Vec<Bucket<T>>, NoMemory>
-    ensures { IfOk result (λ buckets. (length buckets.items ≡ 32) × AreEmpty buckets.items) }
+    ensures { IfOk result (λ buckets. (length buckets.items ≡ 8) × AreEmpty buckets.items) }
 {
     let mut buckets = Vec::with_capacity(alloc, BUCKETS)?;
     for _made in 0..BUCKETS {

@@ -29,11 +29,11 @@ returns c =
     let ours : own_source c.args.args.caller s ≡ true = cc in
     let own : is_own_source c.args.args.caller addr ≡ true = ap (λ (x : SendAddr). own_source c.args.args.caller x) (sym decoded) ∙ ours in
     let reads = read c.args.args.iovs (16 * count) (send_iovs count c.args.args.kind addr) in
-    let P : List ℕ → Type 0 = λ bytes. Leads (send_head c.args.args.caller c.args.args.iovs count c.args.args.kind bytes) 4115 (To c.reading.result) in
+    let P : List ℕ → Type 0 = λ bytes. Leads (send_head c.args.args.caller c.args.args.iovs count c.args.args.kind bytes) 4115 (To c.reading_into.result) in
     subst P c.as_slice.ensures.value
-    (leads_passed (not (is_send_addr addr)) Inval (refuse_if (not (is_own_source c.args.args.caller addr)) Perm reads) 4115 (To c.reading.result) (ap not fits)
-    (leads_passed (not (is_own_source c.args.args.caller addr)) Perm reads 4115 (To c.reading.result) (ap not own)
-    (reads_lead (pieces_left c.over-rest.result) c.args.args.iovs (16 * count) (Send (Iovs count a)) c.reading.result (refusal Fault) (send_iovs count c.args.args.kind addr) 4115
+    (leads_passed (not (is_send_addr addr)) Inval (refuse_if (not (is_own_source c.args.args.caller addr)) Perm reads) 4115 (To c.reading_into.result) (ap not fits)
+    (leads_passed (not (is_own_source c.args.args.caller addr)) Perm reads 4115 (To c.reading_into.result) (ap not own)
+    (reads_lead (pieces_left c.over-rest.result) c.args.args.iovs (16 * count) (Send (Iovs count a)) c.reading_into.result (refusal Fault) (send_iovs count c.args.args.kind addr) 4115
     c.over-rest.ensures.pieces (λ os. refl)
     (λ bs os. judged_to c.args.args.kind addr (iovs_at bs count) (verdict_of (iovs_at bs count)) os ∙ ap (λ x. send_judged_to x (iovs_at bs count) (verdict_of (iovs_at bs count)) os) (sym is))
-    (omega arith) c.reading.ensures)))
+    (omega arith) c.reading_into.ensures)))

@@ -1,16 +1,13 @@
-use Rattle.std.proofs.Common.{◌≡◌, ℕ, ◌+◌, ◌++◌, ◌<◌, List, set, ap, sym, ◌∙◌, rules, refl, subst, Option, Some, slice_get, arith, length, get_or}
+use Rattle.std.proofs.Common.{◌≡◌, ℕ, ◌+◌, ◌++◌, ◌<◌, List, set, ap, sym, ◌∙◌, rules, refl, subst, Some, slice_get, length, get_or}
 use Rattle.argo_model.specs.declared.closing.DoneLine.{DoneLine}
 use Rattle.argo_model.specs.declared.closing.Run.{Run}
-use Rattle.argo_model.specs.declared.closing.Totals.{Totals}
-use Rattle.argo_model.specs.declared.scripts.Actor.{Actor}
-use Rattle.argo_model.specs.Rules.State.{State}
-use Rattle.argo_model.specs.Runs.Run.{Course, step}
+use Rattle.argo_model.specs.Runs.Run.{step}
 use Rattle.argo_model.specs.Runs.Final.{schedule_of, grown, done_lines}
 use Rattle.vcpu_machine.specs.Vcpu.{VcpuAt}
-use Rattle.argo_machine.specs.Kept.{WorldAt, KeptAt, IsOpenIn, Keeps, StaysKept}
+use Rattle.argo_machine.specs.Kept.{WorldAt, KeptAt, IsOpenIn, StaysKept}
 use Rattle.argo_machine.specs.Replies.{reply_steps}
-use Rattle.argo_machine.proofs.MachineLaws.{world_with, kept_same, advanced, keeps_along, same_world, actor_at, few_steps, short_schedule, counted_length}
-use Rattle.argo_machine.proofs.StandLaws.{OpenAt, open_at, slice_get-read, some_inside, sections-set, left-same, left-less}
+use Rattle.argo_machine.proofs.MachineLaws.{world_with, kept_same, advanced, keeps_along, same_world, actor_at, few_steps, counted_length}
+use Rattle.argo_machine.proofs.StandLaws.{open_at, slice_get-read, some_inside, sections-set, left-same, left-less}
 use Rattle.argo_machine.proofs.BookLaws.{schedule_of-grown}
 use Rattle.argo_machine.proofs.machine.Kept.advance.Goals as goal
 

@@ -3,7 +3,6 @@ use Rattle.argo_model.specs.declared.line.Line.TheVariants.{Load}
 use Rattle.argo_model.specs.declared.reply.Reply.TheVariants.{Hex, Fault}
 use Rattle.argo_model.specs.Programs.Asks.{Say, fetch_all}
 use Rattle.argo_model.specs.Programs.Recv.{say_found}
-use Rattle.vcpu_machine.specs.Cursor.{pieces_left}
 use Rattle.vcpu_machine.proofs.LineLaws.{short_store, short_load}
 use Rattle.vcpu_machine.proofs.RangeLaws.{few_pieces}
 use Rattle.vcpu_machine.proofs.phase.Phase.start.Goals as goal
