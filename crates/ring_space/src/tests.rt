@@ -77,7 +77,7 @@ fn copies_are_those_of_a_plain_loop(rt: HostRuntime) -> Result<(), Fail> {
     assert_eq!(rt; row.count(), page_count(LEN) as usize);
     read_run(&row, LEN, 0, all.as_mut_slice());
     assert!(rt; all.as_slice() == plain.as_slice());
-    assert!(rt; row.page(0)[..64].iter().all(|b| *b == 0));
-    assert!(rt; row.page(4096)[64..].iter().all(|b| *b == 0));
+    assert!(rt; row.page(0).iter().take(64).all(|b| *b == 0));
+    assert!(rt; row.page(4096).iter().skip(64).all(|b| *b == 0));
     Ok(())
 }
