@@ -1,0 +1,106 @@
+//! What a domain asks for when it registers a ring, and how that finds the world.
+ghost use Rattle.std.specs.Prelude.{◌≡◌, ◌&&◌, ◌||◌, not, true, IsTrue, IfSome, IfNone};
+ghost use Rattle.argo_base.specs.Match.{is_wildcard};
+ghost use Rattle.argo_model.specs.declared.action.Action.TheVariants.{Register};
+ghost use Rattle.argo_model.specs.declared.action.Outcome.TheVariants.{Refused};
+ghost use Rattle.argo_model.specs.declared.scripts.Actor.TheVariants.{Vcpu};
+ghost use Rattle.argo_model.specs.Rules.Possible.{is_on_line, is_possible, may_be_away};
+ghost use Rattle.shared_parts.specs.Domains.{IsParty};
+ghost use Rattle.shared_world.specs.Registering.{MayFind};
+
+use argo_base::{DomId, Errno, PageList, RingId};
+use ring_core::Ring;
+use shared_parts::{Domains, Party, Plan, Rings};
+
+/// What a domain asks for when it registers a ring.
+#[derive(Drop)]
+pub(crate) struct Registration {
+    pub(crate) id: RingId,
+    pub(crate) len: u32,
+    pub(crate) pages: PageList,
+    pub(crate) fail_exist: bool,
+}
+
+/// How a registration finds the caller's rings.
+#[derive(Clone, Copy, Debug)]
+pub(crate) enum Standing {
+    Refused(Errno),
+    /// The ring stands just so.
+    Same,
+    /// It stands, and is to start anew.
+    Other,
+    /// There is none under this key.
+    None,
+}
+
+/// The refusals that are found without the caller's rings: a single partner that is not alive, a caller that is off, and a single partner
+/// that is.
+pub(crate) fn refusal<A: Plan>(
+    domains: &Domains<A>,
+    caller: &Party<'_>,
+    r: &Registration,
+) -> Option<Errno>
+    requires { IsParty A.facts caller.now.id caller.now.on caller.now.pages }
+    ensures refused { IfSome result
+        (λ e. IsTrue (is_possible A.facts (Vcpu caller.now.id caller.now.generation)
+        (Register r.now.id.port r.now.id.partner r.now.len r.now.pages r.now.fail_exist) (Refused e))) }
+    ensures on { IfNone result (caller.now.on ≡ true) }
+    ensures other { IfNone result
+        (IsTrue (is_wildcard r.now.id.partner || is_on_line A.facts r.now.id.partner)) }
+{
+    let Some(is_on) = partner_on(domains, r.id.partner) else {
+        return Some(Errno::Srch);
+    };
+    if !caller.on {
+        return Some(Errno::NoDev);
+    }
+    if !is_on {
+        return Some(Errno::ConnRefused);
+    }
+    None
+}
+
+// Whether a single partner is on, where it is alive. No wildcard is off.
+fn partner_on<A: Plan>(domains: &Domains<A>, partner: DomId) -> Option<bool>
+    ensures on { IfSome result
+        (λ on. on ≡ (is_wildcard partner || is_on_line A.facts partner)) }
+    ensures away { IfNone result
+        (IsTrue (not (is_wildcard partner) && may_be_away A.facts partner)) }
+{
+    if partner.is_any() {
+        return Some(true);
+    }
+    let Some(party) = domains.party(partner) else {
+        return None;
+    };
+    Some(party.on)
+}
+
+/// How a registration finds the caller's rings, where it is not refused before.
+pub(crate) fn found(rings: &mut Rings, r: &Registration) -> Standing
+    ensures { MayFind r.now.fail_exist result }
+{
+    let is_full = rings.is_full();
+    match rings.ring_mut(r.id.key()) {
+        Some(_) if r.fail_exist => Standing::Refused(Errno::Exist),
+        Some(ring) if is_same(ring, r) => Standing::Same,
+        Some(_) => Standing::Other,
+        None if is_full => Standing::Refused(Errno::NoSpc),
+        None => Standing::None,
+    }
+}
+
+// Whether a ring is clean, with just this length and these pages.
+fn is_same(ring: &Ring, r: &Registration) -> bool {
+    let row = ring.row();
+    let pages = r.pages.as_slice();
+    if !ring.clean() || ring.len() != r.len || row.count() != pages.len() {
+        return false;
+    }
+    for (place, page) in pages.iter().enumerate() {
+        if row.number(place) != *page {
+            return false;
+        }
+    }
+    true
+}
