@@ -1,0 +1,3 @@
+pub mod ClosedLaws
+pub mod FreshPasses
+pub mod PlanLaws

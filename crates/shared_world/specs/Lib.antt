@@ -1,0 +1,5 @@
+pub mod Closed
+pub mod Ends
+pub mod Plans
+pub mod Possible
+pub mod Whole
