@@ -47,7 +47,6 @@ impl<A: Plan> Domains<A> {
     }
 
     /// A domain, where it is alive.
-    #[tactic(auto, using(crate::proofs::Standings::away_none, crate::proofs::Standings::away_gone, crate::proofs::Standings::found_party, crate::proofs::Standings::found_first))]
     pub fn party(&self, dom: DomId) -> Option<Party<'_>>
         ensures id { IfSome result (λ p. p.id ≡ dom) }
         ensures party { IfSome result (λ p. IsParty A.facts dom p.on p.pages) }
@@ -102,8 +101,8 @@ fn put_fresh(
     domains: &mut BTreeMap<DomId, Domain>,
     line: &DomainLine,
 ) -> Result<(), NoMemory>
-    ensures { OnOk result
-        (domains.new.entries ≡ insert_entry nat_cmp domains.old.entries line.now.id (fresh line.now)) }
+    ensures { OnOk result (domains.new.entries
+        ≡ insert_entry nat_cmp domains.old.entries line.now.id (fresh line.now)) }
 {
     let domain = Domain::fresh(alloc, line)?;
     domains.insert(line.id, domain)?;

@@ -15,7 +15,7 @@ use ring_table::MOST_ROWS;
 use std::alloc::Global;
 use std::collections::BTreeMap;
 
-#[tactic(auto, using(std::proofs::lemmas::Map::Steps::set_value_same, crate::proofs::Standings::end_keeps, crate::proofs::Standings::begin_keeps, crate::proofs::Standings::none_unknown, crate::proofs::Standings::gone_destroyed))]
+#[tactic(auto, using(std::proofs::lemmas::Map::Steps::set_value_same))]
 impl<A: Plan> Domains<A> {
     /// Ends the rings of a domain, the rings that others have for it alone, and its notices. It takes no memory.
     pub fn reset(&mut self, dom: DomId) {
@@ -48,6 +48,7 @@ impl<A: Plan> Domains<A> {
     }
 
     /// The domain is alive in its next generation, with this.
+    #[tactic(auto, using(crate::proofs::Standings::begin_keeps))]
     pub fn begin_anew(&mut self, dom: DomId, live: Live)
         requires { IsTrue (is_destroyed A.facts dom) }
     {
@@ -55,6 +56,7 @@ impl<A: Plan> Domains<A> {
     }
 
     // One domain is gone, with all that it has.
+    #[tactic(auto, using(crate::proofs::Standings::end_keeps))]
     fn end_one(&mut self, dom: DomId)
         requires { IsTrue (is_destroyed A.facts dom) }
     {

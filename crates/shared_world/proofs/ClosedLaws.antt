@@ -4,7 +4,7 @@ use Rattle.std.proofs.lemmas.List.{length-map}
 use Rattle.std.proofs.lemmas.List.Elements.{All-nil, All-cons}
 use Rattle.argo_model.specs.declared.closing.Totals.{Totals}
 use Rattle.argo_board.specs.Board.{Tally, totals_of, StandInOrder as AreInOrder}
-use Rattle.shared_world.specs.Passes.{Carried, carried, StandInOrder}
+use Rattle.shared_steps.specs.Passes.{Carried, carried, StandInOrder}
 use Rattle.argo_model.specs.declared.closed.ClosedDomain.{ClosedDomain}
 use Rattle.argo_model.specs.declared.scripts.DomainLine.{DomainLine}
 use Rattle.argo_board.specs.Journal.{is_raised}

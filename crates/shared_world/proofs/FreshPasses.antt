@@ -1,7 +1,7 @@
 -- Laws of passes that are made one after another, for virtual CPU 0, 1 and so on.
 use Rattle.std.proofs.Common.{◌≡◌, ℕ, zero, suc, ◌+◌, ◌<◌, List, [], ◌∷◌, ◌++◌, length, slice_index_or, ap, ◌∙◌, subst, arith}
 use Rattle.argo_board.specs.Board.{Tally, tally, AreFresh as AreFreshTallies}
-use Rattle.shared_world.specs.Passes.{Carried, carried, AreFresh}
+use Rattle.shared_steps.specs.Passes.{Carried, carried, AreFresh}
 
 -- the passes of the board that are left, from this number on
 abbrev pub AreLeft : ℕ → List Tally → Type 0

@@ -4,16 +4,15 @@ ghost use Rattle.argo_board.specs.Board.{totals_of};
 ghost use Rattle.argo_board.specs.Journal.{IsFit, accepted_of, bytes_of};
 ghost use Rattle.shared_parts.specs.Closed.{AreRowsOf};
 ghost use Rattle.shared_world.specs.Closed.{AreFlagsOf, flagged};
-ghost use Rattle.shared_world.specs.Passes.{StandInOrder};
+ghost use Rattle.shared_steps.specs.Passes.{StandInOrder};
 
 use crate::Closed;
-use crate::pass::WorldPass;
-use crate::pause::Pause;
 use crate::world::World;
 use argo_base::NoMemory;
 use argo_board::{Board, Pass};
 use argo_model::{ClosedDomain, ClosedDomains, Heard};
 use shared_parts::Plan;
+use shared_steps::{Pause, Steps, WorldPass};
 use std::alloc::Global;
 use std::sync::ledger::Ledger;
 
@@ -35,12 +34,15 @@ impl<A: Plan, B: Ledger, C: Ledger, P: Pause> World<A, B, C, P> {
         ensures heard { IfOk result (λ c. c.heard ≡ heard) }
     {
         let World {
-            alloc,
-            pause: _pause,
+            steps,
             actors: _actors,
             domains,
-            board,
         } = self;
+        let Steps {
+            alloc,
+            pause: _pause,
+            board,
+        } = steps;
         let board = board.into_inner();
         let rows = domains.into_inner().into_closed(alloc)?;
         let domains = with_flags(rows, &board);
@@ -64,12 +66,7 @@ fn plain_passes<A: Ledger, B: Ledger, C: Ledger>(
 {
     let mut plain = Vec::with_capacity(alloc, passes.len())?;
     for pass in passes {
-        let WorldPass {
-            vcpu: _,
-            pass,
-            held: _held,
-        } = pass;
-        plain.push(pass)?;
+        plain.push(pass.into_pass())?;
     }
     Ok(plain)
 }

@@ -6,17 +6,15 @@ ghost use Rattle.argo_model.specs.Rules.Possible.{is_destroyed, is_possible, may
 ghost use Rattle.argo_model.specs.Runs.Script.{is_known_actor};
 ghost use Rattle.argo_board.specs.Board.{most_steps};
 ghost use Rattle.shared_world.specs.Ends.{MayTurn, the_action};
-ghost use Rattle.shared_world.specs.Passes.{stepped};
+ghost use Rattle.shared_steps.specs.Passes.{stepped};
 ghost use Rattle.shared_world.specs.Possible.{may_end};
 
-use crate::journal::append;
-use crate::pass::WorldPass;
-use crate::pause::Pause;
 use crate::world::World;
 use argo_base::{DomId, Errno, NoMemory};
 use argo_board::{Board, FlagChange};
 use argo_model::{Actor, Outcome};
 use shared_parts::{Domains, Live, Plan};
+use shared_steps::{Pause, WorldPass};
 use std::alloc::Global;
 use std::sync::Wait;
 use std::sync::ledger::Ledger;
@@ -40,7 +38,6 @@ enum Turn {
     Created(DomId, Live),
 }
 
-#[tactic(auto, using(crate::proofs::Ranks::is_last, crate::proofs::Ranks::given_back))]
 impl<A: Plan, B: Ledger, C: Ledger, P: Pause> World<A, B, C, P> {
     /// Performs an act on a whole domain.
     pub(crate) fn end<R: Wait>(
@@ -59,14 +56,14 @@ impl<A: Plan, B: Ledger, C: Ledger, P: Pause> World<A, B, C, P> {
         ensures pass { IfOk result (λ o. pass.new ≡ stepped pass.old o) }
         ensures err { OnErr result (pass.new ≡ pass.old) }
     {
-        let mut part = self.domains.write(rt, &mut pass.held);
+        let mut part = pass.write(rt, &self.domains);
         let domains = part.value_mut();
         let outcome = if is_gone(domains, actor) {
-            self.note(rt, pass, Outcome::Gone)
+            self.steps.note(rt, pass, Outcome::Gone)
         } else {
             self.end_in(rt, pass, domains, end)
         };
-        part.release(&mut pass.held);
+        pass.end_write(part);
         outcome
     }
 
@@ -85,9 +82,9 @@ impl<A: Plan, B: Ledger, C: Ledger, P: Pause> World<A, B, C, P> {
         ensures pass { IfOk result (λ o. pass.new ≡ stepped pass.old o) }
         ensures err { OnErr result (pass.new ≡ pass.old) }
     {
-        match turn_of(domains, self.alloc, end)? {
+        match turn_of(domains, self.steps.alloc, end)? {
             Ok(turn) => self.end_noted(rt, pass, domains, turn),
-            Err(error) => self.note(rt, pass, Outcome::Refused(error)),
+            Err(error) => self.steps.note(rt, pass, Outcome::Refused(error)),
         }
     }
 
@@ -106,9 +103,9 @@ impl<A: Plan, B: Ledger, C: Ledger, P: Pause> World<A, B, C, P> {
         ensures pass { IfOk result (λ o. pass.new ≡ stepped pass.old o) }
         ensures err { OnErr result (pass.new ≡ pass.old) }
     {
-        let mut part = self.board.lock(rt, &mut pass.held);
+        let mut part = pass.lock(rt, &self.steps.board);
         let outcome = ended(part.value_mut(), pass, domains, turn);
-        part.release(&mut pass.held);
+        pass.unlock(part);
         outcome
     }
 }
@@ -185,5 +182,5 @@ fn ended<A: Plan, B: Ledger, C: Ledger>(
             FlagChange::Keep
         }
     };
-    Ok(append(board, pass, Outcome::Done, change))
+    Ok(pass.append(board, Outcome::Done, change))
 }

@@ -1,29 +1,23 @@
 //! The world, and each action of a pass.
 ghost use Rattle.std.specs.Prelude.{◌≡◌, ◌+◌, ◌<◌, ◌≤◌, [], ◌∷◌, IsTrue, IfOk, OnErr, length, map};
-ghost use Rattle.argo_model.specs.declared.scripts.Actor.TheVariants.{Vcpu};
 ghost use Rattle.argo_model.specs.Rules.Access.{is_fit_at};
-ghost use Rattle.argo_model.specs.Rules.Fit.{is_fit, is_fit_for};
+ghost use Rattle.argo_model.specs.Rules.Fit.{is_fit_for};
 ghost use Rattle.argo_model.specs.Rules.Possible.{facts_of, is_possible};
 ghost use Rattle.argo_model.specs.Runs.Final.{totals_after};
 ghost use Rattle.argo_model.specs.Runs.Script.{is_known_actor};
 ghost use Rattle.argo_board.specs.Board.{AreFresh as AreFreshTallies, most_steps, most_vcpus, totals_of};
-ghost use Rattle.shared_parts.specs.Domains.{IsParty};
-ghost use Rattle.shared_world.specs.Passes.{AreFresh, stepped};
-ghost use Rattle.shared_world.specs.Possible.{is_other_act, is_possible_at, may_end};
+ghost use Rattle.shared_steps.specs.Passes.{AreFresh, stepped};
+ghost use Rattle.shared_world.specs.Possible.{is_possible_at, may_end};
 
 use crate::blanks::Blanks;
 use crate::ends::End;
-use crate::memory::Writing;
-use crate::pass::WorldPass;
-use crate::pause::Pause;
-use crate::registration::Registration;
-use crate::send::{Asked, Sent};
-use argo_base::{NoMemory, Piece, RingId, RingKey};
+use argo_base::NoMemory;
 use argo_board::{Board, Pass};
 use argo_model::{Action, Actor, Outcome, Part, Scripts};
 use lock_tokens::{Gate, RwGate};
-use ring_core::Offer;
-use shared_parts::{Domains, Party, Plan};
+use shared_acts::Caller;
+use shared_parts::{Domains, Plan};
+use shared_steps::{Pause, Steps, WorldPass};
 use std::alloc::Global;
 use std::marker::Model;
 use std::sync::Wait;
@@ -34,11 +28,9 @@ use std::sync::ledger::Ledger;
 /// the world as its `Pause`; all else that it holds is behind locks, and known there by its types.
 #[derive(Drop)]
 pub struct World<A: Plan, B: Ledger, C: Ledger, P: Pause> {
-    pub(crate) alloc: Global,
-    pub(crate) pause: P,
+    pub(crate) steps: Steps<A, B, C, P>,
     pub(crate) actors: Vec<Actor>,
     pub(crate) domains: RwGate<Domains<A>, 1>,
-    pub(crate) board: Gate<Board<A, B, C>, 7>,
 }
 
 impl<A: Plan, B: Ledger, C: Ledger, P: Pause> Model for World<A, B, C, P> {
@@ -47,12 +39,12 @@ impl<A: Plan, B: Ledger, C: Ledger, P: Pause> Model for World<A, B, C, P> {
 
     ghost Value = { P };
 
-    ghost view = { λ w. w.pause };
+    ghost view = { λ w. w.steps.pause };
 
     ghost invariant = { λ w. (w.actors.items ≡ A.actors) × IsPlan A.facts A.actors A.parts };
 }
 
-#[tactic(auto, using(crate::proofs::Ranks::is_last, crate::proofs::Ranks::given_back, crate::proofs::PlanLaws::plan_of, crate::proofs::PlanLaws::few_sections))]
+#[tactic(auto, using(crate::proofs::PlanLaws::plan_of, crate::proofs::PlanLaws::few_sections))]
 impl<A: Plan, B: Ledger, C: Ledger, P: Pause> World<A, B, C, P> {
     /// The world as a run of the script starts in it, and a pass for each section, in their order.
     pub fn build(
@@ -75,11 +67,13 @@ impl<A: Plan, B: Ledger, C: Ledger, P: Pause> World<A, B, C, P> {
         let parts = scripts.parts.as_slice();
         let (board, passes) = Board::build(alloc, parts.len() as u32, room, sends, loads)?;
         let world = World {
-            alloc,
-            pause,
+            steps: Steps {
+                alloc,
+                pause,
+                board: Gate::new(board),
+            },
             actors: actors_of(alloc, parts)?,
             domains: RwGate::new(Domains::new(alloc, scripts)?),
-            board: Gate::new(board),
         };
         Ok((world, world_passes(alloc, passes)?))
     }
@@ -88,7 +82,7 @@ impl<A: Plan, B: Ledger, C: Ledger, P: Pause> World<A, B, C, P> {
     pub fn pause(&self) -> &P
         ensures { result.now ≡ self.now }
     {
-        &self.pause
+        &self.steps.pause
     }
 
     /// Performs an action of a pass, as one step of the run. Other virtual CPUs may act beside it. Where memory runs out there is no step,
@@ -111,7 +105,7 @@ impl<A: Plan, B: Ledger, C: Ledger, P: Pause> World<A, B, C, P> {
         ensures free { pass.new.held ≡ [] }
         ensures err { OnErr result (pass.new ≡ pass.old) }
     {
-        let actor = self.actors[pass.vcpu as usize];
+        let actor = self.actors[pass.vcpu() as usize];
         match a {
             Action::Destroy { dom } => self.end(rt, pass, actor, End::Destroy(dom)),
             Action::Reset { dom } => self.end(rt, pass, actor, End::Reset(dom)),
@@ -136,9 +130,9 @@ impl<A: Plan, B: Ledger, C: Ledger, P: Pause> World<A, B, C, P> {
         ensures pass { IfOk result (λ o. pass.new ≡ stepped pass.old o) }
         ensures err { OnErr result (pass.new ≡ pass.old) }
     {
-        let domains = self.domains.read(rt, &mut pass.held);
+        let domains = pass.read(rt, &self.domains);
         let outcome = self.actor_act(rt, pass, domains.value(), actor, a);
-        domains.release(&mut pass.held);
+        pass.end_read(domains);
         outcome
     }
 
@@ -160,109 +154,12 @@ impl<A: Plan, B: Ledger, C: Ledger, P: Pause> World<A, B, C, P> {
         ensures err { OnErr result (pass.new ≡ pass.old) }
     {
         let Actor::Vcpu(dom, generation) = actor else {
-            return self.note(rt, pass, Outcome::Done);
+            return self.steps.note(rt, pass, Outcome::Done);
         };
-        let Some(caller) = domains.caller(dom, generation) else {
-            return self.note(rt, pass, Outcome::Gone);
+        let Some(party) = domains.caller(dom, generation) else {
+            return self.steps.note(rt, pass, Outcome::Gone);
         };
-        self.vcpu_act(rt, pass, domains, &caller, a)
-    }
-
-    // Performs an action of a virtual CPU for which the domains are read.
-    fn vcpu_act<R: Wait>(
-        &self,
-        rt: &R,
-        pass: &mut WorldPass<A, B, C>,
-        domains: &Domains<A>,
-        caller: &Party<'_>,
-        a: Action,
-    ) -> Result<Outcome, NoMemory>
-        requires held { pass.old.held ≡ 1 ∷ [] }
-        requires few { pass.old.tally.steps < most_steps }
-        requires fit { IsTrue (is_fit a) }
-        requires caller { IsParty A.facts caller.now.id caller.now.on caller.now.pages }
-        ensures possible { IfOk result
-            (λ o. IsTrue (is_possible A.facts (Vcpu caller.now.id caller.now.generation) a o)) }
-        ensures pass { IfOk result (λ o. pass.new ≡ stepped pass.old o) }
-        ensures err { OnErr result (pass.new ≡ pass.old) }
-    {
-        match a {
-            Action::Fetch { page, off, n } => self.fetch(rt, pass, caller, Piece { page, off, n }),
-            Action::Put { page, off, bytes } => {
-                let writing = Writing {
-                    off,
-                    bytes: bytes.as_slice(),
-                };
-                self.put(rt, pass, caller, page, writing)
-            }
-            Action::Look => self.look(rt, pass, caller.id),
-            a => self.argo_act(rt, pass, domains, caller, a),
-        }
-    }
-
-    // Performs an act of Argo, or rests.
-    fn argo_act<R: Wait>(
-        &self,
-        rt: &R,
-        pass: &mut WorldPass<A, B, C>,
-        domains: &Domains<A>,
-        caller: &Party<'_>,
-        a: Action,
-    ) -> Result<Outcome, NoMemory>
-        requires held { pass.old.held ≡ 1 ∷ [] }
-        requires few { pass.old.tally.steps < most_steps }
-        requires other { IsTrue (is_other_act a) }
-        requires fit { IsTrue (is_fit a) }
-        requires caller { IsParty A.facts caller.now.id caller.now.on caller.now.pages }
-        ensures possible { IfOk result
-            (λ o. IsTrue (is_possible A.facts (Vcpu caller.now.id caller.now.generation) a o)) }
-        ensures pass { IfOk result (λ o. pass.new ≡ stepped pass.old o) }
-        ensures err { OnErr result (pass.new ≡ pass.old) }
-    {
-        match a {
-            Action::Register {
-                port,
-                partner,
-                len,
-                pages,
-                fail_exist,
-            } => {
-                let r = Registration {
-                    id: RingId {
-                        owner: caller.id,
-                        port,
-                        partner,
-                    },
-                    len,
-                    pages,
-                    fail_exist,
-                };
-                self.register(rt, pass, domains, caller, r)
-            }
-            Action::Unregister { port, partner } => {
-                self.unregister(rt, pass, domains, caller, RingKey { port, partner })
-            }
-            Action::Deliver {
-                port,
-                to,
-                to_port,
-                kind,
-                load,
-            } => {
-                let offer = Offer {
-                    src: caller.id,
-                    port,
-                    kind,
-                    load,
-                };
-                self.deliver(rt, pass, domains, caller, Sent { to, to_port, offer })
-            }
-            Action::Sweep { after } => self.sweep(rt, pass, domains, caller, after),
-            Action::Query { to, to_port, need } => {
-                self.query(rt, pass, domains, caller, Asked { to, to_port, need })
-            }
-            _ => self.note(rt, pass, Outcome::Done),
-        }
+        Caller::new(&self.steps, domains, party).act(rt, pass, a)
     }
 }
 
