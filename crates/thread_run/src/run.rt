@@ -2,6 +2,7 @@
 ghost use Rattle.std.specs.Prelude.{◌≡◌, ◌+◌, IfOk, length, map};
 ghost use Rattle.argo_model.specs.Rules.Possible.{facts_of};
 ghost use Rattle.shared_world.specs.Whole.{IsWhole};
+ghost use Rattle.thread_run.specs.Workers.{AreOfTheSame};
 
 use crate::worker::Worker;
 use crate::workers::{parted, workers_of};
@@ -53,13 +54,7 @@ fn run_world<
     C: Ledger + Send + Sync,
     P: Pause + Send + Sync,
     R: Threads + Wait + Sync,
->(
-    rt: &R,
-    alloc: Global,
-    s: &Scripts,
-    pause: P,
-    blanks: Blanks,
-) -> Result<Closed, NoMemory>
+>(rt: &R, alloc: Global, s: &Scripts, pause: P, blanks: Blanks) -> Result<Closed, NoMemory>
     requires facts { A.facts ≡ facts_of s.now }
     requires actors { A.actors ≡ map (λ x. x.actor) s.now.sections }
     requires parts { A.parts ≡ length s.now.sections + 1 }
@@ -69,8 +64,9 @@ fn run_world<
     requires loads { (blanks.loads.name ≡ C.name) × (blanks.loads.parts ≡ C.parts) }
     ensures { IfOk result (λ c. IsWhole s.now c) }
 {
-    let (world, passes): (World<A, B, C, P>, Vec<WorldPass<A, B, C>>) =
-        World::build(alloc, s, pause, blanks)?;
+    let (world, passes): (World<A, B, C, P>, Vec<WorldPass<A, B, C>>) = World::build(
+        alloc, s, pause, blanks,
+    )?;
     let mut workers = workers_of(alloc, s.parts.as_slice(), passes)?;
     run_all(rt, &world, &mut workers);
     let (passes, heard) = parted(alloc, workers)?;
@@ -84,14 +80,15 @@ fn run_all<
     C: Ledger + Send + Sync,
     P: Pause + Send + Sync,
     R: Threads + Wait + Sync,
->(
-    rt: &R,
-    world: &World<A, B, C, P>,
-    workers: &mut Vec<Worker<A, B, C>>,
-)
+>(rt: &R, world: &World<A, B, C, P>, workers: &mut Vec<Worker<A, B, C>>)
+    ensures count { length workers.new.items ≡ length workers.old.items }
+    ensures same { AreOfTheSame workers.old.items workers.new.items }
 {
     let threads = workers.len().max(1);
-    thread::for_each_mut(rt, workers.as_mut_slice(), threads, &|_, worker| {
-        worker.work(rt, world)
-    });
+    thread::for_each_mut(
+        rt,
+        workers.as_mut_slice(),
+        threads,
+        &|_, worker| { worker.work(rt, world) },
+    );
 }

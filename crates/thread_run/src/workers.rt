@@ -1,4 +1,9 @@
 //! The workers of all sections, before the first step and after the last.
+ghost use Rattle.std.specs.Prelude.{◌≡◌, IfOk, length, map};
+ghost use Rattle.argo_board.specs.Board.{totals_of};
+ghost use Rattle.shared_steps.specs.Passes.{AreFresh, StandInOrder};
+ghost use Rattle.shared_world.specs.Whole.{AreHeardOut};
+ghost use Rattle.thread_run.specs.Workers.{AllMayWork, AreWorkersOf};
 
 use crate::worker::Worker;
 use argo_base::NoMemory;
@@ -14,10 +19,14 @@ pub(crate) fn workers_of<A: Plan, B: Ledger, C: Ledger>(
     parts: &[Part],
     passes: Vec<WorldPass<A, B, C>>,
 ) -> Result<Vec<Worker<A, B, C>>, NoMemory>
+    requires count { length passes.items ≡ length parts.now }
+    requires fresh { AreFresh passes.items }
+    requires may { AllMayWork A.facts A.actors parts.now }
+    ensures { IfOk result (λ workers. AreWorkersOf workers.items parts.now) }
 {
     let mut workers = Vec::with_capacity(alloc, passes.len())?;
     for pass in passes {
-        let part = &parts[pass.pass().vcpu() as usize];
+        let part = &parts[pass.vcpu() as usize];
         workers.push(Worker::new(alloc, part, pass)?)?;
     }
     Ok(workers)
@@ -28,6 +37,11 @@ pub(crate) fn parted<A: Plan, B: Ledger, C: Ledger>(
     alloc: Global,
     workers: Vec<Worker<A, B, C>>,
 ) -> Result<(Vec<WorldPass<A, B, C>>, Heard), NoMemory>
+    ensures numbers { IfOk result
+        (λ r. map (λ p. p.tally.vcpu) r.0.items ≡ map (λ w. w.number) workers.items) }
+    ensures heard { IfOk result
+        (λ r. AreHeardOut (map (λ w. w.vcpu.part) workers.items)
+        (map (λ p. totals_of p.tally) r.0.items) r.1) }
 {
     let mut passes = Vec::with_capacity(alloc, workers.len())?;
     let mut heard = Heard::new(alloc);
