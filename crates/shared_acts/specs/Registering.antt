@@ -1,9 +1,9 @@
 -- How a registration may find the caller's rings.
 use Rattle.std.specs.Prelude.{Bool, IsTrue, ⊤}
 use Rattle.argo_model.specs.declared.action.Outcome.TheVariants.{Refused as IsRefused}
-use Rattle.shared_world.specs.declared.registration.Standing.{Standing}
-use Rattle.shared_world.specs.declared.registration.Standing.TheVariants.{Refused, Same, Other, None}
-use Rattle.shared_world.specs.Possible.{is_registered}
+use Rattle.shared_acts.specs.declared.registration.Standing.{Standing}
+use Rattle.shared_acts.specs.declared.registration.Standing.TheVariants.{Refused, Same, Other, None}
+use Rattle.shared_acts.specs.Comes.{is_registered}
 
 -- it is refused only where a registration may be
 abbrev pub MayFind : Bool → Standing → Type 0

@@ -1,10 +1,8 @@
 //! A virtual CPU that acts while the domains are read.
 ghost use Rattle.std.specs.Prelude.{◌≡◌, ◌<◌, [], ◌∷◌, IsTrue, IfOk, OnErr};
-ghost use Rattle.argo_model.specs.declared.scripts.Actor.TheVariants.{Vcpu};
 ghost use Rattle.argo_model.specs.Rules.Fit.{is_fit};
 ghost use Rattle.argo_model.specs.Rules.Possible.{is_possible};
 ghost use Rattle.argo_board.specs.Board.{most_steps};
-ghost use Rattle.shared_parts.specs.Domains.{IsParty};
 ghost use Rattle.shared_steps.specs.Passes.{stepped};
 ghost use Rattle.shared_acts.specs.Comes.{is_act_of_argo};
 
@@ -23,9 +21,10 @@ use std::sync::ledger::Ledger;
 /// A virtual CPU of a domain that is alive, as it acts while its pass has the domains for reading. Contracts see which one it is.
 #[derive(Drop)]
 pub struct Caller<'a, A: Plan, B: Ledger, C: Ledger, P: Pause> {
-    pub(crate) steps: &'a Steps<A, B, C, P>,
-    pub(crate) domains: &'a Domains<A>,
-    pub(crate) party: Party<'a>,
+    pub steps: &'a Steps<A, B, C, P>,
+    pub domains: &'a Domains<A>,
+    /// Its domain.
+    pub party: Party<'a>,
 }
 
 impl<'a, A: Plan, B: Ledger, C: Ledger, P: Pause> Model for Caller<'a, A, B, C, P> {
@@ -41,18 +40,6 @@ impl<'a, A: Plan, B: Ledger, C: Ledger, P: Pause> Model for Caller<'a, A, B, C, 
 }
 
 impl<'a, A: Plan, B: Ledger, C: Ledger, P: Pause> Caller<'a, A, B, C, P> {
-    /// A virtual CPU of this domain.
-    pub fn new(steps: &'a Steps<A, B, C, P>, domains: &'a Domains<A>, party: Party<'a>) -> Self
-        requires { IsParty A.facts party.id party.on party.pages }
-        ensures { result ≡ Vcpu party.entry.id party.entry.generation }
-    {
-        Caller {
-            steps,
-            domains,
-            party,
-        }
-    }
-
     /// Performs an action, as one step. Where memory runs out there is no step.
     pub fn act<R: Wait>(
         &self,
@@ -105,7 +92,11 @@ impl<'a, A: Plan, B: Ledger, C: Ledger, P: Pause> Caller<'a, A, B, C, P> {
                 fail_exist,
             } => {
                 let r = Registration {
-                    id: self.ring(RingKey { port, partner }),
+                    id: RingId {
+                        owner: self.party.id,
+                        port,
+                        partner,
+                    },
                     len,
                     pages,
                     fail_exist,
@@ -135,18 +126,6 @@ impl<'a, A: Plan, B: Ledger, C: Ledger, P: Pause> Caller<'a, A, B, C, P> {
                 self.query(rt, pass, Asked { to, to_port, need })
             }
             _ => self.steps.note(rt, pass, Outcome::Done),
-        }
-    }
-
-    /// The id of the caller's ring of this key.
-    pub(crate) fn ring(&self, key: RingKey) -> RingId
-        ensures port { result.port ≡ key.port }
-        ensures partner { result.partner ≡ key.partner }
-    {
-        RingId {
-            owner: self.party.id,
-            port: key.port,
-            partner: key.partner,
         }
     }
 }

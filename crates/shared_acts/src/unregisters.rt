@@ -7,7 +7,7 @@ ghost use Rattle.argo_board.specs.Board.{most_steps};
 ghost use Rattle.shared_steps.specs.Passes.{stepped};
 
 use crate::caller::Caller;
-use argo_base::{Errno, NoMemory, RingKey};
+use argo_base::{Errno, NoMemory, RingId, RingKey};
 use argo_board::{Board, FlagChange};
 use argo_model::Outcome;
 use guest_pages::Private;
@@ -35,11 +35,16 @@ impl<'a, A: Plan, B: Ledger, C: Ledger, P: Pause> Caller<'a, A, B, C, P> {
         if !self.party.on {
             return self.steps.note(rt, pass, Outcome::Refused(Errno::NoDev));
         }
+        let id = RingId {
+            owner: self.party.id,
+            port: key.port,
+            partner: key.partner,
+        };
         let mut part = pass.write(rt, &self.party.live.rings);
         let ended = self.end_ring(rt, pass, part.value_mut(), key);
         let outcome = match ended {
             Ok(Some(notices)) => {
-                self.unlist_all(rt, pass, self.ring(key), &notices);
+                self.unlist_all(rt, pass, id, &notices);
                 Ok(Outcome::Done)
             }
             Ok(None) => self.steps.note(rt, pass, Outcome::Refused(Errno::NoEnt)),

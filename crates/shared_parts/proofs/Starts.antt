@@ -4,6 +4,7 @@ use Rattle.std.specs.declared.cmp.Ordering.{Ordering}
 use Rattle.std.specs.declared.cmp.Ordering.TheVariants.{Less, Equal, Greater}
 use Rattle.std.specs.Ordering.{nat_cmp, match_ordering}
 use Rattle.std.specs.List.{list_any, list_all}
+use Rattle.std.specs.List.Sorted.{IsStrictlySortedBy}
 use Rattle.std.specs.Map.{lookup, keys_of}
 use Rattle.std.specs.BTreeMap.{is_at, insert_entry}
 use Rattle.std.proofs.lemmas.Bool.{and_parts, not-true}
@@ -13,7 +14,7 @@ use Rattle.argo_model.specs.declared.scripts.DomainLine.{DomainLine}
 use Rattle.argo_model.specs.Rules.Possible.{Facts, facts_of, is_on_line, gives_page}
 use Rattle.argo_model.specs.Runs.Script.{Script, has_domain, are_distinct, is_lawful, is_domain_id, is_page_count}
 use Rattle.state_laws.proofs.Rising.{is_at_self}
-use Rattle.shared_parts.specs.Closed.{has_row, AreRowsOf}
+use Rattle.shared_parts.specs.Closed.{AreRowsOf, Rise, ids_of}
 use Rattle.shared_parts.specs.Domains.{Standing, MayStand, MayBeFound, AreOf, fresh, fresh_all}
 
 -- ---- what is put in is found
@@ -149,18 +150,20 @@ known_found : (f : Facts) (d : ℕ) (o : Option Standing) → MayBeFound f d o �
 known_found f d None none = sym none
 known_found f d (Some x) s = sym s.known
 
-row_found : (d : ℕ) (rows : List ClosedDomain) → has_row rows d ≡ list_any (λ k. k == d) (map (λ x. x.id) rows)
-row_found d [] = refl
-row_found d (x ∷ rows) = ap (λ (b : Bool). (x.id == d) || b) (row_found d rows)
-
 nothing_after : (ids : List ℕ) → ids ++ [] ≡ ids
 nothing_after [] = refl
 nothing_after (x ∷ xs) = ap (λ (ys : List ℕ). x ∷ ys) (nothing_after xs)
 
-pub rows_are : (f : Facts) (xs rest : List (ℕ × Standing)) (rows : List ClosedDomain) → AreOf f xs → map (λ x. x.id) rows ++ keys_of rest ≡ keys_of xs → rest ≡ [] → AreRowsOf f.domains rows
+ids_are : (xs rest : List (ℕ × Standing)) (rows : List ClosedDomain) → ids_of rows ++ keys_of rest ≡ keys_of xs → rest ≡ [] → ids_of rows ≡ keys_of xs
+ids_are xs rest rows same none =
+    sym (nothing_after (ids_of rows)) ∙ subst (λ (es : List (ℕ × Standing)). ids_of rows ++ keys_of es ≡ keys_of xs) none same
+
+pub rows_are : (f : Facts) (xs rest : List (ℕ × Standing)) (rows : List ClosedDomain) → AreOf f xs → ids_of rows ++ keys_of rest ≡ keys_of xs → rest ≡ [] → AreRowsOf f.domains rows
 rows_are f xs rest rows are same none d =
-    let ids = sym (nothing_after (map (λ x. x.id) rows)) ∙ subst (λ (es : List (ℕ × Standing)). map (λ x. x.id) rows ++ keys_of es ≡ keys_of xs) none same in
-    row_found d rows ∙ ap (list_any (λ k. k == d)) ids ∙ key_found d xs ∙ known_found f d (lookup (is_at (nat_cmp d)) xs) (are d)
+    ap (list_any (λ k. k == d)) (ids_are xs rest rows same none) ∙ key_found d xs ∙ known_found f d (lookup (is_at (nat_cmp d)) xs) (are d)
+
+pub rows_rise : (xs rest : List (ℕ × Standing)) (rows : List ClosedDomain) → IsStrictlySortedBy nat_cmp (keys_of xs) → ids_of rows ++ keys_of rest ≡ keys_of xs → rest ≡ [] → Rise rows
+rows_rise xs rest rows rise same none = subst (IsStrictlySortedBy nat_cmp) (sym (ids_are xs rest rows same none)) rise
 
 pub rows_more : (id : ℕ) (ids rest all : List ℕ) → ids ++ id ∷ rest ≡ all → (ids ++ id ∷ []) ++ rest ≡ all
 rows_more id ids rest all same = one_more id ids rest ∙ same where

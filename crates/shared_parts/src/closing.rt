@@ -1,6 +1,6 @@
 //! The domains as they stand after the last step.
 ghost use Rattle.std.specs.Prelude.{◌≡◌, IfOk};
-ghost use Rattle.shared_parts.specs.Closed.{AreRowsOf};
+ghost use Rattle.shared_parts.specs.Closed.{AreRowsOf, Rise};
 
 use crate::domain::Domain;
 use crate::domains::Domains;
@@ -17,10 +17,11 @@ impl<A: Plan> Domains<A> {
     /// A row for each domain, by rising id, with a clear flag. Where memory runs out, the domains are lost.
     #[tactic(auto, using(crate::proofs::Starts::rows_more))]
     pub fn into_closed(self, alloc: Global) -> Result<ClosedDomains, NoMemory>
-        ensures { IfOk result (λ rows. AreRowsOf A.facts.domains rows) }
+        ensures rows { IfOk result (λ rows. AreRowsOf A.facts.domains rows) }
+        ensures rise { IfOk result (λ rows. Rise rows) }
     {
         let Domains { domains, .. } = self;
-        let mut closed = ClosedDomains::new(alloc);
+        let mut closed = ClosedDomains::from_vec(Vec::with_capacity(alloc, domains.len())?);
         for (id, domain) in domains {
             closed.push(domain_of(alloc, id, domain)?)?;
         }

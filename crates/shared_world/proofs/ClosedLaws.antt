@@ -1,5 +1,8 @@
 -- Laws of a closed world: its rows have their flags and keep their ids, and its passes keep their order and their totals.
-use Rattle.std.proofs.Common.{◌≡◌, ℕ, zero, suc, ◌<◌, ◌==◌, Bool, ◌||◌, List, [], ◌∷◌, length, map, slice_index_or, refl, sym, ap, ◌∙◌, subst, arith}
+use Rattle.std.proofs.Common.{◌≡◌, ℕ, zero, suc, ◌<◌, ◌==◌, List, [], ◌∷◌, length, map, slice_index_or, refl, sym, ap, ◌∙◌, subst, arith}
+use Rattle.std.specs.List.{list_any}
+use Rattle.std.specs.List.Sorted.{IsStrictlySortedBy}
+use Rattle.std.specs.Ordering.{nat_cmp}
 use Rattle.std.proofs.lemmas.List.{length-map}
 use Rattle.std.proofs.lemmas.List.Elements.{All-nil, All-cons}
 use Rattle.argo_model.specs.declared.closing.Totals.{Totals}
@@ -9,19 +12,22 @@ use Rattle.argo_model.specs.declared.closed.ClosedDomain.{ClosedDomain}
 use Rattle.argo_model.specs.declared.scripts.DomainLine.{DomainLine}
 use Rattle.argo_board.specs.Journal.{is_raised}
 use Rattle.argo_board.specs.declared.entry.Entry.{Entry}
-use Rattle.shared_parts.specs.Closed.{has_row, AreRowsOf}
+use Rattle.shared_parts.specs.Closed.{AreRowsOf, Rise, ids_of}
 use Rattle.shared_world.specs.Closed.{AreFlagsOf, flagged}
 
 pub flags_shown : (entries : List Entry) (rows : List ClosedDomain) → AreFlagsOf entries (map (flagged entries) rows)
 flags_shown entries [] = All-nil (λ x. x.flag ≡ is_raised x.id entries)
 flags_shown entries (x ∷ rows) = All-cons (λ x. x.flag ≡ is_raised x.id entries) (flagged entries x) (map (flagged entries) rows) refl (flags_shown entries rows)
 
-same_rows : (entries : List Entry) (rows : List ClosedDomain) (d : ℕ) → has_row (map (flagged entries) rows) d ≡ has_row rows d
-same_rows entries [] d = refl
-same_rows entries (x ∷ rows) d = ap (λ (b : Bool). (x.id == d) || b) (same_rows entries rows d)
+same_ids : (entries : List Entry) (rows : List ClosedDomain) → ids_of (map (flagged entries) rows) ≡ ids_of rows
+same_ids entries [] = refl
+same_ids entries (x ∷ rows) = ap (λ (ids : List ℕ). x.id ∷ ids) (same_ids entries rows)
 
 pub rows_shown : (lines : List DomainLine) (entries : List Entry) (rows : List ClosedDomain) → AreRowsOf lines rows → AreRowsOf lines (map (flagged entries) rows)
-rows_shown lines entries rows are d = same_rows entries rows d ∙ are d
+rows_shown lines entries rows are d = ap (list_any (λ k. k == d)) (same_ids entries rows) ∙ are d
+
+pub rise_shown : (entries : List Entry) (rows : List ClosedDomain) → Rise rows → Rise (map (flagged entries) rows)
+rise_shown entries rows rise = subst (IsStrictlySortedBy nat_cmp) (sym (same_ids entries rows)) rise
 
 -- ---- the passes
 

@@ -2,7 +2,7 @@
 ghost use Rattle.std.specs.Prelude.{◌≡◌, ◌+◌, All, IfOk, length, map, sum_by};
 ghost use Rattle.argo_board.specs.Board.{totals_of};
 ghost use Rattle.argo_board.specs.Journal.{IsFit, accepted_of, bytes_of};
-ghost use Rattle.shared_parts.specs.Closed.{AreRowsOf};
+ghost use Rattle.shared_parts.specs.Closed.{AreRowsOf, Rise};
 ghost use Rattle.shared_world.specs.Closed.{AreFlagsOf, flagged};
 ghost use Rattle.shared_steps.specs.Passes.{StandInOrder};
 
@@ -16,7 +16,7 @@ use shared_steps::{Pause, Steps, WorldPass};
 use std::alloc::Global;
 use std::sync::ledger::Ledger;
 
-#[tactic(auto, using(crate::proofs::ClosedLaws::flags_shown, crate::proofs::ClosedLaws::rows_shown, crate::proofs::ClosedLaws::order_kept, crate::proofs::ClosedLaws::totals_kept))]
+#[tactic(auto, using(crate::proofs::ClosedLaws::flags_shown, crate::proofs::ClosedLaws::rows_shown, crate::proofs::ClosedLaws::rise_shown, crate::proofs::ClosedLaws::order_kept, crate::proofs::ClosedLaws::totals_kept))]
 impl<A: Plan, B: Ledger, C: Ledger, P: Pause> World<A, B, C, P> {
     /// The journal, the totals of the passes, and the domains as they stand, beside the replies that were heard. Where memory runs out,
     /// the world is lost.
@@ -31,6 +31,7 @@ impl<A: Plan, B: Ledger, C: Ledger, P: Pause> World<A, B, C, P> {
         ensures bytes { IfOk result (λ c. sum_by (λ t. t.bytes) c.totals ≡ bytes_of c.entries) }
         ensures flags { IfOk result (λ c. AreFlagsOf c.entries c.domains) }
         ensures rows { IfOk result (λ c. AreRowsOf A.facts.domains c.domains) }
+        ensures rise { IfOk result (λ c. Rise c.domains) }
         ensures heard { IfOk result (λ c. c.heard ≡ heard) }
     {
         let World {

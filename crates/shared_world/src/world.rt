@@ -159,7 +159,12 @@ impl<A: Plan, B: Ledger, C: Ledger, P: Pause> World<A, B, C, P> {
         let Some(party) = domains.caller(dom, generation) else {
             return self.steps.note(rt, pass, Outcome::Gone);
         };
-        Caller::new(&self.steps, domains, party).act(rt, pass, a)
+        let caller = Caller {
+            steps: &self.steps,
+            domains,
+            party,
+        };
+        caller.act(rt, pass, a)
     }
 }
 

@@ -1,5 +1,5 @@
 use Rattle.std.proofs.Common.{◌≡◌}
-use Rattle.shared_acts.proofs.lists.Caller.unlist_doms.Given as goal
+use Rattle.shared_acts.proofs.caller.Caller.unlist_doms.Given as goal
 
 -- the pass is as it was
 abbrev pub invariant-loop-dom : goal.invariant-loop-dom
