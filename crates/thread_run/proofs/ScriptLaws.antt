@@ -32,19 +32,21 @@ actor_at (s ∷ ss) (suc k) d below = actor_at ss k d (omega (arith, below))
 abbrev NamesAll : Facts → List ℕ → Type 0
 NamesAll f ds = (d : ℕ) → list_any (λ x. x == d) ds ≡ true → IsTrue (is_destroyed f d)
 
+or_more : (b c e : Bool) → (c ≡ true → e ≡ true) → (b || c) ≡ true → (b || e) ≡ true
+or_more true c e more h = refl
+or_more false c e more h = more h
+
 any_left : (d : ℕ) (xs ys : List ℕ) → list_any (λ x. x == d) xs ≡ true → list_any (λ x. x == d) (xs ++ ys) ≡ true
 any_left d [] ys h = cc
-any_left d (x ∷ xs) ys h = by (x == d) h where
-  by : (b : Bool) → (b || list_any (λ x. x == d) xs) ≡ true → (b || list_any (λ x. x == d) (xs ++ ys)) ≡ true
-  by true h = refl
-  by false h = any_left d xs ys h
+any_left d (x ∷ xs) ys h = or_more (x == d) (list_any (λ x. x == d) xs) (list_any (λ x. x == d) (xs ++ ys)) (any_left d xs ys) h
+
+or_right : (b c : Bool) → c ≡ true → (b || c) ≡ true
+or_right true c h = refl
+or_right false c h = h
 
 any_right : (d : ℕ) (xs ys : List ℕ) → list_any (λ x. x == d) ys ≡ true → list_any (λ x. x == d) (xs ++ ys) ≡ true
 any_right d [] ys h = h
-any_right d (x ∷ xs) ys h = by (x == d) where
-  by : (b : Bool) → (b || list_any (λ x. x == d) (xs ++ ys)) ≡ true
-  by true = refl
-  by false = any_right d xs ys h
+any_right d (x ∷ xs) ys h = or_right (x == d) (list_any (λ x. x == d) (xs ++ ys)) (any_right d xs ys h)
 
 same_number : (d : ℕ) → (d == d) ≡ true
 same_number d = grind (arith, nat_tests)

@@ -5,6 +5,7 @@ use Rattle.std.proofs.lemmas.List.{length-append}
 use Rattle.argo_model.specs.declared.action.Action.{Action}
 use Rattle.argo_model.specs.declared.action.Outcome.{Outcome}
 use Rattle.argo_model.specs.declared.closed.HeardLine.{HeardLine}
+use Rattle.argo_model.specs.declared.closing.Totals.{Totals}
 use Rattle.argo_model.specs.declared.reply.Reply.{Reply}
 use Rattle.argo_model.specs.declared.scripts.Actor.{Actor}
 use Rattle.argo_model.specs.Programs.Asks.{Next, Do, CanFollow}
@@ -12,7 +13,9 @@ use Rattle.argo_model.specs.Rules.Access.{is_fit_of, is_fit_at}
 use Rattle.argo_model.specs.Rules.Fit.{is_fit_for}
 use Rattle.argo_model.specs.Rules.Outcomes.{can_have}
 use Rattle.argo_model.specs.Rules.Possible.{Facts, is_possible}
+use Rattle.argo_model.specs.Runs.Final.{totals_after}
 use Rattle.argo_model.specs.Runs.Script.{Section}
+use Rattle.argo_board.specs.Board.{totals_of}
 use Rattle.vcpu_machine.specs.Vcpu.{VcpuAt, StandsAt, GoesOn, Fed, ahead, left_of, progress_after}
 use Rattle.shared_steps.specs.Passes.{Carried}
 use Rattle.shared_world.specs.Possible.{may_end, is_possible_for, is_possible_at}
@@ -76,7 +79,6 @@ module _ (f : Facts) (actors : List Actor) (v : VcpuAt) (pass : Carried) (heard 
 
   module _ (more : v.done < length v.part.lines) (o : Outcome) (w : VcpuAt) (after : Carried) (held : after.held ≡ [])
       (number : after.tally.vcpu ≡ pass.tally.vcpu) (counts : after.tally.steps ≡ pass.tally.steps + 1) where
-
     same_may : w.part ≡ v.part → MayWork f actors after.tally.vcpu w.part
     same_may part =
         subst (λ (s : Section). MayWork f actors after.tally.vcpu s) (sym part) (subst (λ (n : ℕ). MayWork f actors n v.part) (sym number) is.may)
@@ -119,3 +121,27 @@ module _ (f : Facts) (actors : List Actor) (v : VcpuAt) (pass : Carried) (heard 
           within = omega (arith, last, step);
           last = λ past. last ∙ step;
         }
+
+-- ---- a whole step: the next action was asked for, performed, and its outcome fed
+
+steps_more : (a b : Totals) (o : Outcome) → b ≡ totals_after a o → b.steps ≡ a.steps + 1
+steps_more a b o counts = ap (λ (t : Totals). t.steps) counts
+
+module _ (f : Facts) (actors : List Actor) (v w x : VcpuAt) (pass after : Carried) (heard : List HeardLine) (room : ℕ) (o : Outcome) (is : IsWork f actors v pass heard room)
+    (more : v.done < length v.part.lines) (on : GoesOn v w) (free : after.held ≡ []) (number : after.tally.vcpu ≡ pass.tally.vcpu)
+    (counts : totals_of after.tally ≡ totals_after (totals_of pass.tally) o) where
+  still_more : w.done < length w.part.lines
+  still_more =
+      let done = on.done in
+      let lines : length w.part.lines ≡ length v.part.lines = ap (λ (s : Section). length s.lines) on.part in
+      omega (arith, done, lines, more)
+
+  pub step_further : Fed w o None x → IsWork f actors x after heard room
+  step_further fed =
+      goes_further f actors w pass heard room (goes_on f actors v pass heard room is w on) still_more o x after free number
+      (steps_more (totals_of pass.tally) (totals_of after.tally) o counts) fed
+
+  pub step_heard : (reply : Reply) (h : HeardLine) → Fed w o (Some reply) x → h.step ≡ after.tally.steps → IsWork f actors x after (heard ++ h ∷ []) room
+  step_heard reply h fed step =
+      hears f actors w pass heard room (goes_on f actors v pass heard room is w on) still_more o x after free number
+      (steps_more (totals_of pass.tally) (totals_of after.tally) o counts) reply h fed step

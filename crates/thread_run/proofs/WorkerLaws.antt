@@ -1,10 +1,13 @@
 -- Laws of the workers of all sections.
-use Rattle.std.proofs.Common.{◌≡◌, ℕ, suc, zero, ◌+◌, ◌<◌, List, [], ◌∷◌, ◌++◌, length, map, slice_index_or, refl, sym, ap, subst, ◌∙◌, arith}
+use Rattle.std.proofs.Common.{◌≡◌, ℕ, suc, zero, ◌+◌, ◌<◌, List, [], ◌∷◌, ◌++◌, length, map, sum_by, All, slice_index_or, refl, sym, ap, subst, ◌∙◌, arith}
 use Rattle.argo_model.specs.declared.closed.HeardLine.{HeardLine}
 use Rattle.argo_model.specs.declared.closing.Totals.{Totals}
-use Rattle.argo_model.specs.Runs.Script.{Section}
+use Rattle.argo_model.specs.Runs.Script.{Script, Section}
+use Rattle.argo_board.specs.Board.{totals_of}
+use Rattle.argo_board.specs.Journal.{IsFit, accepted_of, bytes_of}
 use Rattle.shared_steps.specs.Passes.{Carried, StandInOrder}
-use Rattle.shared_world.specs.Whole.{IsHeardOut, AreHeardOut}
+use Rattle.shared_world.specs.declared.closed.Closed.{Closed}
+use Rattle.shared_world.specs.Whole.{IsHeardOut, AreHeardOut, IsWhole}
 use Rattle.thread_run.specs.Worker.{Work, SameSection}
 use Rattle.thread_run.specs.Workers.{AreWorkersFrom, AreWorkersOf, AreOfTheSame}
 
@@ -31,8 +34,7 @@ same_workers n [] (w ∷ news) ss count same are = absurd (omega (arith, count))
 same_workers n (v ∷ olds) [] ss count same are = absurd (omega (arith, count))
 same_workers n (v ∷ olds) (w ∷ news) [] count same are = absurd are
 same_workers n (v ∷ olds) (w ∷ news) (s ∷ ss) count same are =
-    let first = same 0 v (omega arith) in
-    (
+    let first = same 0 v (omega arith) in (
       (first.part ∙ are.0.0, first.number ∙ are.0.1),
       same_workers (n + 1) olds news ss (omega (arith, count)) (λ k d below. same (suc k) d (omega (arith, below))) are.1,
     )
@@ -59,7 +61,8 @@ order_from n (p ∷ ps) (w ∷ ws) (s ∷ ss) same are (suc k) d below =
     omega (arith, at)
 
 pub in_order : (ps : List Carried) (ws : List Work) (ss : List Section) → map (λ p. p.tally.vcpu) ps ≡ map (λ w. w.number) ws → AreWorkersOf ws ss → StandInOrder ps
-in_order ps ws ss same are = λ k d below. order_from 0 ps ws ss same are k d below
+in_order ps ws ss same are = λ k d below.
+    let moved : 0 + k ≡ k = omega arith in order_from 0 ps ws ss same are k d below ∙ moved
 
 pub as_many_passes : (ps : List Carried) (ws : List Work) → map (λ p. p.tally.vcpu) ps ≡ map (λ w. w.number) ws → length ps ≡ length ws
 as_many_passes [] [] same = refl
@@ -78,3 +81,23 @@ heard_more [] (y ∷ ts) hs s t h all out = absurd all
 heard_more (x ∷ ss) [] hs s t h all out = absurd all
 heard_more (x ∷ ss) (y ∷ ts) [] s t h all out = absurd all
 heard_more (x ∷ ss) (y ∷ ts) (z ∷ hs) s t h all out = (all.0, heard_more ss ts hs s t h all.1 out)
+
+-- the closed world is whole
+pub whole : (s : Script) (c : Closed) (ps : List Carried) (ws : List Work)
+    → map (λ p. p.tally.vcpu) ps ≡ map (λ w. w.number) ws → AreWorkersOf ws s.sections
+    → All (IsFit (length ps)) c.entries → c.totals ≡ map (λ p. totals_of p.tally) ps
+    → sum_by (λ t. t.steps) c.totals ≡ length c.entries → sum_by (λ t. t.accepted) c.totals ≡ accepted_of c.entries
+    → sum_by (λ t. t.bytes) c.totals ≡ bytes_of c.entries
+    → (heard : List (List HeardLine)) → AreHeardOut (map (λ w. w.vcpu.part) ws) (map (λ p. totals_of p.tally) ps) heard → c.heard ≡ heard → IsWhole s c
+whole s c ps ws numbers are fit totals steps accepted bytes heard out same =
+    let count : length ps ≡ length s.sections = as_many_passes ps ws numbers ∙ as_many 0 ws s.sections are in
+    record {
+      entries = subst (λ (n : ℕ). All (IsFit n) c.entries) count fit;
+      steps = steps;
+      accepted = accepted;
+      bytes = bytes;
+      heard =
+          subst (λ (hs : List (List HeardLine)). AreHeardOut s.sections c.totals hs) (sym same)
+          (subst (λ (ts : List Totals). AreHeardOut s.sections ts heard) (sym totals)
+          (subst (λ (ss : List Section). AreHeardOut ss (map (λ p. totals_of p.tally) ps) heard) (parts_are 0 ws s.sections are) out));
+    }

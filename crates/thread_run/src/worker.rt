@@ -35,6 +35,7 @@ impl<A: Plan, B: Ledger, C: Ledger> Model for Worker<A, B, C> {
     ghost invariant = { λ w. IsWork A.facts A.actors w.vcpu w.pass w.heard.items (vec_capacity w.heard) };
 }
 
+#[tactic(auto, using(crate::proofs::StepLaws::fit_here, crate::proofs::StepLaws::can_follow, crate::proofs::StepLaws::ends_here, crate::proofs::StepLaws::goes_on, crate::proofs::StepLaws::step_further, crate::proofs::StepLaws::step_heard))]
 impl<A: Plan, B: Ledger, C: Ledger> Worker<A, B, C> {
     /// One that has made no step of its section.
     pub(crate) fn new(
@@ -56,7 +57,7 @@ impl<A: Plan, B: Ledger, C: Ledger> Worker<A, B, C> {
     pub(crate) fn work<P: Pause, R: Wait>(&mut self, rt: &R, world: &World<A, B, C, P>)
         ensures { SameSection self.old self.new }
     {
-        while !self.vcpu.finished() {
+        'steps: while !self.vcpu.finished() {
             let Ok(()) = self.step(rt, world) else {
                 return;
             };
