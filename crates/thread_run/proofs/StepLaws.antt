@@ -15,7 +15,7 @@ use Rattle.argo_model.specs.Rules.Outcomes.{can_have}
 use Rattle.argo_model.specs.Rules.Possible.{Facts, is_possible}
 use Rattle.argo_model.specs.Runs.Final.{totals_after}
 use Rattle.argo_model.specs.Runs.Script.{Section}
-use Rattle.argo_board.specs.Board.{totals_of}
+use Rattle.argo_board.specs.Board.{most_steps, totals_of}
 use Rattle.vcpu_machine.specs.Vcpu.{VcpuAt, StandsAt, GoesOn, Fed, ahead, left_of, progress_after}
 use Rattle.shared_steps.specs.Passes.{Carried}
 use Rattle.shared_world.specs.Possible.{may_end, is_possible_for, is_possible_at}
@@ -43,7 +43,7 @@ last_more (x ∷ y ∷ hs) h = last_more (y ∷ hs) h
 
 -- ---- what a step owes
 
-pub fit_here : (actors : List Actor) (n : ℕ) (actor : Actor) (a : Action) → slice_get actors n ≡ Some actor → IsTrue (is_fit_for actor a) → IsTrue (is_fit_at actors n a)
+fit_here : (actors : List Actor) (n : ℕ) (actor : Actor) (a : Action) → slice_get actors n ≡ Some actor → IsTrue (is_fit_for actor a) → IsTrue (is_fit_at actors n a)
 fit_here actors n actor a here fit = ap (λ o. is_fit_of o a) here ∙ fit
 
 can_have_of : (f : Facts) (actor : Actor) (a : Action) (o : Outcome) → IsTrue (is_possible f actor a o) → IsTrue (can_have a o)
@@ -52,7 +52,7 @@ can_have_of f actor a o h =
     let c = and_parts _ _ d.0 in let b = and_parts _ _ c.0 in let x = and_parts _ _ b.0 in let y = and_parts _ _ x.0 in y.0
 
 -- an outcome that the world found possible can follow
-pub can_follow : (f : Facts) (actors : List Actor) (n : ℕ) (actor : Actor) (a : Action) (o : Outcome) (next : Next)
+can_follow : (f : Facts) (actors : List Actor) (n : ℕ) (actor : Actor) (a : Action) (o : Outcome) (next : Next)
     → slice_get actors n ≡ Some actor → next ≡ Do a → IsTrue (is_possible_at f actors n a o) → CanFollow next o
 can_follow f actors n actor a o next here does possible =
     subst (λ (x : Next). CanFollow x o) (sym does) (can_have_of f actor a o (sym (ap (λ x. is_possible_for f x a o) here) ∙ possible))
@@ -62,6 +62,19 @@ can_follow f actors n actor a o next here does possible =
 module _ (f : Facts) (actors : List Actor) (v : VcpuAt) (pass : Carried) (heard : List HeardLine) (room : ℕ) (is : IsWork f actors v pass heard room) where
   pub ends_here : (a : Action) → ahead v [] ≡ Do a → IsTrue (may_end f a)
   ends_here a does = next_may_end f v is.progress a is.stands is.may.ends does
+
+  pub fit_next : (a : Action) → IsTrue (is_fit_for v.part.actor a) → IsTrue (is_fit_at actors pass.tally.vcpu a)
+  fit_next a fit = fit_here actors pass.tally.vcpu v.part.actor a is.may.actor fit
+
+  pub follows_next : (w : VcpuAt) (a : Action) (o : Outcome) → GoesOn v w → ahead v [] ≡ Do a → IsTrue (is_possible_at f actors pass.tally.vcpu a o) → CanFollow (ahead w []) o
+  follows_next w a o on does possible = can_follow f actors pass.tally.vcpu v.part.actor a o (ahead w []) is.may.actor (on.rest [] ∙ does) possible
+
+  pub few_made : pass.tally.steps < most_steps
+  few_made = let few = is.few in omega (arith, few)
+
+  -- there is room for one reply more
+  pub room_next : v.done < length v.part.lines → length heard < room
+  room_next more = let room_is = is.room_is in let all = is.all in omega (arith, room_is, all, more)
 
   pub goes_on : (w : VcpuAt) → GoesOn v w → IsWork f actors w pass heard room
   goes_on w on = record {

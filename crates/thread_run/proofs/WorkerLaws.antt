@@ -1,11 +1,12 @@
 -- Laws of the workers of all sections.
 use Rattle.std.proofs.Common.{◌≡◌, ℕ, suc, zero, ◌+◌, ◌<◌, List, [], ◌∷◌, ◌++◌, length, map, sum_by, All, slice_index_or, refl, sym, ap, subst, ◌∙◌, arith}
+use Rattle.std.proofs.lemmas.List.{length-append}
 use Rattle.argo_model.specs.declared.closed.HeardLine.{HeardLine}
 use Rattle.argo_model.specs.declared.closing.Totals.{Totals}
 use Rattle.argo_model.specs.Runs.Script.{Script, Section}
-use Rattle.argo_board.specs.Board.{totals_of}
+use Rattle.argo_board.specs.Board.{tally, totals_of}
 use Rattle.argo_board.specs.Journal.{IsFit, accepted_of, bytes_of}
-use Rattle.shared_steps.specs.Passes.{Carried, StandInOrder}
+use Rattle.shared_steps.specs.Passes.{Carried, carried, AreFresh, StandInOrder}
 use Rattle.shared_world.specs.declared.closed.Closed.{Closed}
 use Rattle.shared_world.specs.Whole.{IsHeardOut, AreHeardOut, IsWhole}
 use Rattle.thread_run.specs.Worker.{Work, SameSection}
@@ -71,6 +72,26 @@ as_many_passes (p ∷ ps) [] same = cc
 as_many_passes (p ∷ ps) (w ∷ ws) same =
     let rest : map (λ q. q.tally.vcpu) ps ≡ map (λ x. x.number) ws = cc in
     ap suc (as_many_passes ps ws rest)
+
+-- the ledger has a part for each of them and one more
+pub parts_of : (parts : ℕ) (ps : List Carried) (ws : List Work) (ss : List Section) → map (λ p. p.tally.vcpu) ps ≡ map (λ w. w.number) ws → AreWorkersOf ws ss
+    → parts ≡ length ss + 1 → length ps + 1 ≡ parts
+parts_of parts ps ws ss same are is =
+    let passes = as_many_passes ps ws same in let workers = as_many 0 ws ss are in omega (arith, passes, workers, is)
+
+-- ---- before the first step
+
+at_place : (before after : List Carried) (p d : Carried) → slice_index_or (before ++ p ∷ after) (length before) d ≡ p
+at_place [] after p d = refl
+at_place (x ∷ before) after p d = at_place before after p d
+
+-- the pass that follows these is the one of their count
+pub fresh_here : (before after : List Carried) (p : Carried) → AreFresh (before ++ p ∷ after) → p ≡ carried (tally (length before) 0 0 0) []
+fresh_here before after p fresh =
+    let sum = length-append before (p ∷ after) in
+    sym (at_place before after p p) ∙ fresh (length before) p (omega (arith, sum))
+
+-- ---- after the last step
 
 -- one section more is heard out
 pub heard_more : (ss : List Section) (ts : List Totals) (hs : List (List HeardLine)) (s : Section) (t : Totals) (h : List HeardLine)

@@ -35,7 +35,7 @@ impl<A: Plan, B: Ledger, C: Ledger> Model for Worker<A, B, C> {
     ghost invariant = { λ w. IsWork A.facts A.actors w.vcpu w.pass w.heard.items (vec_capacity w.heard) };
 }
 
-#[tactic(auto, using(crate::proofs::StepLaws::fit_here, crate::proofs::StepLaws::can_follow, crate::proofs::StepLaws::ends_here, crate::proofs::StepLaws::goes_on, crate::proofs::StepLaws::step_further, crate::proofs::StepLaws::step_heard))]
+#[tactic(auto, using(crate::proofs::StepLaws::ends_here, crate::proofs::StepLaws::fit_next, crate::proofs::StepLaws::follows_next, crate::proofs::StepLaws::few_made, crate::proofs::StepLaws::room_next, crate::proofs::StepLaws::goes_on, crate::proofs::StepLaws::step_further, crate::proofs::StepLaws::step_heard))]
 impl<A: Plan, B: Ledger, C: Ledger> Worker<A, B, C> {
     /// One that has made no step of its section.
     pub(crate) fn new(

@@ -14,7 +14,7 @@ use std::alloc::Global;
 use std::sync::ledger::Ledger;
 
 /// One for each pass, which is that of the section of its number.
-#[tactic(auto, using(crate::proofs::WorkerLaws::worker_more))]
+#[tactic(auto, using(crate::proofs::WorkerLaws::worker_more, crate::proofs::WorkerLaws::fresh_here))]
 pub(crate) fn workers_of<A: Plan, B: Ledger, C: Ledger>(
     alloc: Global,
     parts: &[Part],
