@@ -14,6 +14,9 @@ use Rattle.argo_run.specs.declared.status.Status.TheVariants as s
 use Rattle.argo_run.specs.declared.words.Form.{Form}
 use Rattle.argo_run.specs.declared.words.Form.TheVariants as f
 use Rattle.argo_run.specs.Words.{form_of}
+use Rattle.audit.specs.declared.split.Split.{Split}
+use Rattle.shared_world.specs.declared.closed.Closed.{Closed}
+use Rattle.argo_run.specs.Threads.{IsRunReport, IsSplitOf, IsRunText, split_text}
 use Rattle.argo_run.specs.Due.{IsReport, IsDue, IsSummary, fault_text, usage_text}
 
 -- the bytes that were read: all of the source, or 4,194,305 of them
@@ -53,6 +56,31 @@ pub record IsCutShort (seed : ℕ) (left left_new written written_new : Option (
 abbrev pub IsLeftOff : ℕ → Option (List ℕ) → Option (List ℕ) → Option (List ℕ) → Option (List ℕ) → Type 0
 IsLeftOff seed left left_new written written_new = (written_new ≡ written) ⊎ IsCutShort seed left left_new written written_new
 
+-- a run in threads: status 0, as for a seed, under the schedule that the report names
+pub record IsRunDone (left left_new written written_new : Option (List ℕ)) : Type 0 where
+  pub read : List ℕ
+  pub told : left ≡ behind read left_new
+  pub at_end : IsAtEnd left_new
+  pub script : Script
+  pub is_script : scripts_of read ≡ Ok script
+  pub text : List ℕ
+  pub report : IsRunReport script text
+  pub headline : Headline script report.schedule
+  pub whole : written_new ≡ appended written text
+
+-- status 6 of a run in threads: the world that is carried is whole for the script, and the line of its first difference was written
+pub record IsRunSplit (x : Split) (closed : Closed) (left left_new written written_new : Option (List ℕ)) : Type 0 where
+  pub read : List ℕ
+  pub told : left ≡ behind read left_new
+  pub script : Script
+  pub is_script : scripts_of read ≡ Ok script
+  pub split : IsSplitOf script x closed
+  pub whole : written_new ≡ appended written (split_text x)
+
+abbrev pub IsRunDue : Result Script ScriptFault → List ℕ → Type 0
+IsRunDue (Ok script) text = IsRunText script text
+IsRunDue (Err f) text = text ≡ fault_text f
+
 -- status 0 of generated scripts: their summary was written whole
 pub record IsSummed (n : ℕ) (written written_new : Option (List ℕ)) : Type 0 where
   pub text : List ℕ
@@ -68,6 +96,14 @@ pub record IsSummaryCutShort (n : ℕ) (written written_new : Option (List ℕ))
 -- memory ran out before a byte was written, or while the summary was written
 abbrev pub IsSummaryLeftOff : ℕ → Option (List ℕ) → Option (List ℕ) → Type 0
 IsSummaryLeftOff n written written_new = (written_new ≡ written) ⊎ IsSummaryCutShort n written written_new
+
+-- a part of the text that was due for a run in threads was written, and not all of it
+pub record IsRunCutShort (left left_new written written_new : Option (List ℕ)) : Type 0 where
+  pub read : List ℕ
+  pub is_read : IsRead left left_new read
+  pub text : List ℕ
+  pub due : IsRunDue (scripts_of read) text
+  pub cut : CutShort written written_new text
 
 -- one condition for each status; the others are met by every end
 abbrev pub IfDone : Status → Type 0 → Type 0
@@ -90,6 +126,10 @@ abbrev pub IfScript : Status → (ScriptFault → Type 0) → Type 0
 IfScript (s.Script line kind) P = P (record { line = line; kind = kind })
 IfScript _ P = ⊤
 
+abbrev pub IfSplit : Status → (Split → Closed → Type 0) → Type 0
+IfSplit (s.Split x closed) P = P x closed
+IfSplit _ P = ⊤
+
 abbrev pub IfNoMemory : Status → Type 0 → Type 0
 IfNoMemory s.NoMemory P = P
 IfNoMemory _ P = ⊤
@@ -101,6 +141,7 @@ Agrees given s.Usage = ⊥
 Agrees given s.SourceFault = ⊤
 Agrees given s.SinkFault = ⊤
 Agrees given (s.Script line kind) = given ≡ Err (record { line = line; kind = kind })
+Agrees given (s.Split x closed) = (script : Script) × (given ≡ Ok script)
 Agrees given s.NoMemory = ⊤
 
 -- where the source tells its bytes, the status agrees with them
@@ -129,6 +170,10 @@ HasSeed words P = (seed : ℕ) × (form_in words ≡ Some (f.Serial seed)) × P 
 abbrev pub HasNumber : Vec (String Global) Global → (ℕ → Type 0) → Type 0
 HasNumber words P = (n : ℕ) × (form_in words ≡ Some (f.Gen n)) × P n
 
+-- the word is `threads`
+abbrev pub IsInThreads : Vec (String Global) Global → Type 0
+IsInThreads words = form_in words ≡ Some f.Threads
+
 -- how the program ends after its last flush: as the run did, with no fault more; or the sink counted one
 abbrev pub EndsFlushed : ℕ → ℕ → Status → Status → Type 0
 EndsFlushed faults faults_new status end =
@@ -142,4 +187,5 @@ IsUsageOrSinkFault status = (status ≡ s.Usage) ⊎ (status ≡ s.SinkFault)
 abbrev pub IsTextCutShort : Option Form → (left left_new written written_new : Option (List ℕ)) → Type 0
 IsTextCutShort (Some (f.Serial seed)) left left_new written written_new = IsCutShort seed left left_new written written_new
 IsTextCutShort (Some (f.Gen n)) left left_new written written_new = IsSummaryCutShort n written written_new
+IsTextCutShort (Some f.Threads) left left_new written written_new = IsRunCutShort left left_new written written_new
 IsTextCutShort None left left_new written written_new = CutShort written written_new usage_text

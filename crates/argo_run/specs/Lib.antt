@@ -3,3 +3,4 @@ pub mod Due
 pub mod Ends
 pub mod Numbers
 pub mod Serve
+pub mod Threads

@@ -10,12 +10,17 @@ ghost use Rattle.argo_run.specs.Serve.{WroteUsage};
 use crate::Status;
 use crate::generated::run_gen;
 use crate::serial::run_serial;
+use crate::threads::run_in_threads;
 use crate::words::{Form, form_of};
 use argo_outside::{Sink, Source, write_whole};
+use shared_world::{NoPause, Pause};
 use std::alloc::Global;
+use std::sync::Wait;
+use std::thread::Threads;
 
 /// Does all that the program does, for its words after its name.
-pub fn run<S: Source, K: Sink>(
+pub fn run<R: Threads + Wait + Sync, S: Source, K: Sink>(
+    rt: &R,
     alloc: Global,
     words: &Vec<String>,
     src: &mut S,
@@ -54,9 +59,25 @@ pub fn run<S: Source, K: Sink>(
     ensures gen_complete { HasNumber words.now (λ n. ⊤)
         → IsDoneWhereSinkStands (Rose (K.faults out.old) (K.faults out.new)) result }
 {
+    run_with(rt, alloc, words, src, out, NoPause)
+}
+
+/// As `run`. A run in threads is told to the pause: each reply, with no lock held, and each offer to a ring, inside its lock.
+pub fn run_with<R: Threads + Wait + Sync, S: Source, K: Sink, P: Pause + Send + Sync>(
+    rt: &R,
+    alloc: Global,
+    words: &Vec<String>,
+    src: &mut S,
+    out: &mut K,
+    pause: P,
+) -> Status
+    ensures source { S.faults src.old ≤ S.faults src.new }
+    ensures sink { K.faults out.old ≤ K.faults out.new }
+{
     match form_of(words) {
         Some(Form::Serial(seed)) => run_serial(alloc, seed, src, out),
         Some(Form::Gen(n)) => run_gen(alloc, n, out),
+        Some(Form::Threads) => run_in_threads(rt, alloc, src, out, pause),
         None => tell_usage(out),
     }
 }

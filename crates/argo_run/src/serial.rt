@@ -53,8 +53,8 @@ pub fn run_serial<S: Source, K: Sink>(alloc: Global, seed: u64, src: &mut S, out
     }
 }
 
-// Reads the bytes of a script.
-fn read_text<S: Source>(alloc: Global, src: &mut S) -> Result<Bytes, Status>
+/// Reads the bytes of a script.
+pub(crate) fn read_text<S: Source>(alloc: Global, src: &mut S) -> Result<Bytes, Status>
     ensures count { S.faults src.old ≤ S.faults src.new }
     ensures read { IfOk result (λ text. IsRead (S.left src.old) (S.left src.new) text) }
     ensures fault { IfErr result
@@ -83,8 +83,8 @@ fn serve<K: Sink>(alloc: Global, seed: u64, text: &[u8], out: &mut K) -> Status
     }
 }
 
-// Writes the report.
-fn report<K: Sink>(alloc: Global, out: &mut K, shown: &Final) -> Status
+/// Writes the report.
+pub(crate) fn report<K: Sink>(alloc: Global, out: &mut K, shown: &Final) -> Status
     ensures count { K.faults out.old ≤ K.faults out.new }
     ensures ends { WroteReport (report_of shown.now) (K.written out.old) (K.written out.new)
         (Rose (K.faults out.old) (K.faults out.new)) result }
@@ -96,8 +96,8 @@ fn report<K: Sink>(alloc: Global, out: &mut K, shown: &Final) -> Status
     }
 }
 
-// Writes the line of a fault.
-fn tell<K: Sink>(alloc: Global, out: &mut K, fault: ScriptFault) -> Status
+/// Writes the line of a fault.
+pub(crate) fn tell<K: Sink>(alloc: Global, out: &mut K, fault: ScriptFault) -> Status
     ensures count { K.faults out.old ≤ K.faults out.new }
     ensures ends { WroteFault fault (K.written out.old) (K.written out.new)
         (Rose (K.faults out.old) (K.faults out.new)) result }

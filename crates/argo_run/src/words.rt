@@ -2,7 +2,7 @@
 
 ghost use Rattle.std.specs.Prelude.{◌≡◌, ◌+◌, ◌≤◌, ◌^◌, Some, None, map};
 ghost use Rattle.std.specs.String.{string_bytes};
-ghost use Rattle.argo_run.specs.Words.{is_digit, decimal_value, number_of, form_with, form_of};
+ghost use Rattle.argo_run.specs.Words.{is_digit, decimal_value, number_of, form_alone, form_with, form_of};
 
 /// What the words ask for.
 #[derive(Clone, Copy, Debug, PartialEq, Eq)]
@@ -11,6 +11,8 @@ pub(crate) enum Form {
     Serial(u64),
     /// `gen N`: the scripts of this number are run by its picks.
     Gen(u64),
+    /// `threads`: the script of the input is run in threads.
+    Threads,
 }
 
 /// The form of the words, if they have one.
@@ -18,7 +20,17 @@ pub(crate) fn form_of(words: &Vec<String>) -> Option<Form>
     ensures { result ≡ form_of (map string_bytes words.now.items) }
 {
     match words.as_slice() {
+        [name] => form_alone(name.as_str()),
         [name, number] => form_with(name.as_str(), number_of(number.as_bytes())?),
+        _ => None,
+    }
+}
+
+fn form_alone(name: &str) -> Option<Form>
+    ensures { result ≡ form_alone name.now }
+{
+    match name {
+        "threads" => Some(Form::Threads),
         _ => None,
     }
 }

@@ -1,0 +1,8 @@
+-- Nothing differs at the places so far.
+use Rattle.std.proofs.Common.{◌≡◌, None}
+use Rattle.audit.specs.First.{first_below}
+use Rattle.audit.specs.Heard.{steps_at}
+use Rattle.audit.proofs.heard.lines_steps.Given as goal
+
+abbrev pub invariant-loop-at : goal.invariant-loop-at
+invariant-loop-at l = first_below (steps_at l.threads l.machine) l.at ≡ None

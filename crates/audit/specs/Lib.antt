@@ -1,0 +1,9 @@
+pub mod Audit
+pub mod Domains
+pub mod Entries
+pub mod First
+pub mod Heard
+pub mod Names
+pub mod Rings
+pub mod Rows
+pub mod Steps
