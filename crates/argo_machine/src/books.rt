@@ -18,19 +18,22 @@ pub(crate) struct Books {
 }
 
 impl Books {
-    ghost use Rattle.std.specs.Prelude.{[], OnOk};
+    ghost use Rattle.std.specs.Prelude.{[], OnOk, IfOk};
     ghost use Rattle.argo_machine.specs.Books.{HasRoom, SameBooks, Notes};
 
-    pub(crate) fn new(alloc: Global) -> Books
-        ensures runs { result.runs.items ≡ [] }
-        ensures done { result.done.items ≡ [] }
-        ensures steps { result.reply_steps.items ≡ [] }
+    /// Empty books, with room for the replies of so many lines.
+    pub(crate) fn with_room(alloc: Global, lines: usize) -> Result<Books, NoMemory>
+        ensures runs { IfOk result (λ b. b.runs.items ≡ []) }
+        ensures done { IfOk result (λ b. b.done.items ≡ []) }
+        ensures steps { IfOk result (λ b. b.reply_steps.items ≡ []) }
     {
-        Books {
+        let done = Vec::with_capacity(alloc, lines)?;
+        let reply_steps = Vec::with_capacity(alloc, lines)?;
+        Ok(Books {
             runs: Vec::new(alloc),
-            done: Vec::new(alloc),
-            reply_steps: Vec::new(alloc),
-        }
+            done,
+            reply_steps,
+        })
     }
 
     /// Takes the memory that one `note` wants.

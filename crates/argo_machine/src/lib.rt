@@ -5,6 +5,7 @@
 #![tactic(auto)]
 
 mod books;
+mod copies;
 mod machine;
 mod replies;
 mod vcpus;

@@ -8,8 +8,9 @@ ghost use Rattle.argo_model.specs.Runs.Closed.{closed_domains, heard_all};
 ghost use Rattle.argo_machine.specs.Machine.{OneStep};
 
 use crate::books::Books;
+use crate::copies::copy_of_scripts;
 use crate::replies::heard_of_all;
-use crate::vcpus::vcpus_of;
+use crate::vcpus::{lines_of, vcpus_of};
 use argo_base::NoMemory;
 use argo_model::{
     ClosedDomains, DomainLines, DoneList, Final, Heard, Outcome, Runs, Scripts, SerialWorld,
@@ -45,16 +46,26 @@ impl<W: SerialWorld> Machine<W> {
         ensures schedule { IfOk result (λ m. m.schedule ≡ []) }
         ensures left { IfOk result (λ m. m.left < 2 ^ 32) }
     {
-        let vcpus = vcpus_of(alloc, scripts.parts.as_slice())?;
-        let domains = DomainLines::copy_of(alloc, scripts.domains.as_slice())?;
-        let world = W::start(alloc, scripts)?;
+        Machine::taking(alloc, copy_of_scripts(alloc, scripts)?)
+    }
+
+    /// As `new`, of a script that is given away: none of its lines is copied.
+    pub fn taking(alloc: Global, scripts: Scripts) -> Result<Machine<W>, NoMemory>
+        ensures script { IfOk result (λ m. m.script ≡ scripts) }
+        ensures schedule { IfOk result (λ m. m.schedule ≡ []) }
+        ensures left { IfOk result (λ m. m.left < 2 ^ 32) }
+    {
+        let books = Books::with_room(alloc, lines_of(scripts.parts.as_slice()))?;
+        let room = Vec::with_capacity(alloc, scripts.parts.len())?;
+        let world = W::start(alloc, &scripts)?;
+        let vcpus = vcpus_of(alloc, room, scripts.parts);
         Ok(Machine {
             version: scripts.version,
-            domains,
+            domains: scripts.domains,
             kept: Kept {
                 vcpus,
                 world,
-                books: Books::new(alloc),
+                books,
             },
             alloc,
         })

@@ -74,7 +74,7 @@ fn serve<K: Sink>(alloc: Global, seed: u64, text: &[u8], out: &mut K) -> Status
         (Rose (K.faults out.old) (K.faults out.new)) result }
 {
     match read_scripts(alloc, text) {
-        Ok(scripts) => match run_scripts(alloc, seed, &scripts) {
+        Ok(scripts) => match run_scripts(alloc, seed, scripts) {
             Ok(shown) => report(alloc, out, &shown),
             Err(_) => Status::NoMemory,
         },
