@@ -30,7 +30,7 @@ impl Turned {
     }
 }
 
-fn heard(alloc: Global, t: Turned) -> Result<Heard, NoMemory> {
+fn heard_with(alloc: Global, t: Turned) -> Result<Heard, NoMemory> {
     let mut lines = HeardLines::new(alloc);
     lines.push(HeardLine {
         reply: Reply::Number(if t.has(20) { 5 } else { 4 }),
@@ -41,7 +41,7 @@ fn heard(alloc: Global, t: Turned) -> Result<Heard, NoMemory> {
     Ok(heard)
 }
 
-fn ring(alloc: Global, t: Turned) -> Result<ClosedRing, NoMemory> {
+fn ring_with(alloc: Global, t: Turned) -> Result<ClosedRing, NoMemory> {
     let message = Message {
         src: DomId(2),
         port: 9,
@@ -73,10 +73,10 @@ fn ring(alloc: Global, t: Turned) -> Result<ClosedRing, NoMemory> {
     })
 }
 
-fn domain(alloc: Global, t: Turned) -> Result<ClosedDomain, NoMemory> {
+fn domain_with(alloc: Global, t: Turned) -> Result<ClosedDomain, NoMemory> {
     let mut rings = ClosedRings::new(alloc);
     if !t.has(24) {
-        rings.push(ring(alloc, t)?)?;
+        rings.push(ring_with(alloc, t)?)?;
     }
     let mut pages = Bytes::copy_of(alloc, &[0; 16])?;
     pages.push(if t.has(32) { 9 } else { 0 })?;
@@ -90,9 +90,9 @@ fn domain(alloc: Global, t: Turned) -> Result<ClosedDomain, NoMemory> {
     })
 }
 
-fn world(alloc: Global, t: Turned) -> Result<World, NoMemory> {
+fn world_with(alloc: Global, t: Turned) -> Result<World, NoMemory> {
     let mut domains = ClosedDomains::new(alloc);
-    domains.push(domain(alloc, t)?)?;
+    domains.push(domain_with(alloc, t)?)?;
     let mut totals = TotalList::new(alloc);
     totals.push(Totals {
         steps: t.number(33, 6, 5),
@@ -100,15 +100,15 @@ fn world(alloc: Global, t: Turned) -> Result<World, NoMemory> {
         bytes: 16,
     })?;
     Ok(World {
-        heard: heard(alloc, t)?,
+        heard: heard_with(alloc, t)?,
         domains,
         totals,
     })
 }
 
 fn difference(alloc: Global, t: Turned) -> Result<Option<Split>, NoMemory> {
-    let threads = world(alloc, t)?;
-    let machine = world(alloc, Turned(0, 0))?;
+    let threads = world_with(alloc, t)?;
+    let machine = world_with(alloc, Turned(0, 0))?;
     let threads = Side {
         heard: threads.heard.as_slice(),
         domains: threads.domains.as_slice(),
@@ -122,7 +122,7 @@ fn difference(alloc: Global, t: Turned) -> Result<Option<Split>, NoMemory> {
     sides_differ(alloc, 17, &threads, &machine)
 }
 
-fn split(tag: u8, threads: u64, machine: u64) -> Split {
+fn split_of(tag: u8, threads: u64, machine: u64) -> Split {
     Split {
         step: 17,
         threads: Short {
@@ -160,7 +160,7 @@ fn each_part_of_a_closed_world_is_compared_and_the_first_counts(
         (34, 2, 1),
     ] {
         let found = difference(rt.alloc(), Turned(34, tag))?;
-        assert_eq!(rt; found, Some(split(tag, threads, machine)));
+        assert_eq!(rt; found, Some(split_of(tag, threads, machine)));
     }
     Ok(())
 }
