@@ -7,7 +7,7 @@ use Rattle.thread_run.proofs.worker.Worker.step.Goals as goal
 
 pub next-requires : goal.next-requires
 next-requires g c =
-    subst (λ (w : Work). w.vcpu.done < length w.vcpu.part.lines) (sym c.self.view_is) c.requires.unfinished
+    record { unfinished = subst (λ (w : Work). w.vcpu.done < length w.vcpu.part.lines) (sym c.self.view_is) c.requires.unfinished }
 
 pub invariant_of-self : goal.invariant_of-self
 invariant_of-self g c =
@@ -39,8 +39,8 @@ act-requires-clause-ends g c =
     ends_here g.A.Plan.facts g.A.Plan.actors w.vcpu w.pass w.heard.items (vec_capacity w.heard) c.self.invariant
     c.in_ok-action.action c.in_ok-action.ensures.action
 
-pub invariant_of-self-2 : goal.invariant_of-self-2
-invariant_of-self-2 g c =
+pub invariant_of-self-in_err-outcome : goal.invariant_of-self-in_err-outcome
+invariant_of-self-in_err-outcome g c =
     let w = c.self.inside in
     subst (λ (p : Carried). IsWork g.A.Plan.facts g.A.Plan.actors c.next.new.self p w.heard.items (vec_capacity w.heard)) (sym c.in_err-outcome.ensures.err)
     (goes_on g.A.Plan.facts g.A.Plan.actors w.vcpu w.pass w.heard.items (vec_capacity w.heard) c.self.invariant
@@ -57,8 +57,8 @@ feed-requires-clause-can g c =
     c.next.new.self c.in_ok-action.action c.in_ok-outcome.outcome c.in_ok-action.ensures.same c.in_ok-action.ensures.action
     c.in_ok-outcome.ensures.possible
 
-pub invariant_of-self-3 : goal.invariant_of-self-3
-invariant_of-self-3 g c =
+pub invariant_of-self-in_default : goal.invariant_of-self-in_default
+invariant_of-self-in_default g c =
     let w = c.self.inside in
     let more = subst (λ (x : Work). x.vcpu.done < length x.vcpu.part.lines) (sym c.self.view_is) c.requires.unfinished in
     let e = c.in_ok-outcome.ensures in
@@ -84,8 +84,8 @@ push_reserved-requires g c =
     let held = w.heard.ok.0 in
     omega (arith, below, held)
 
-pub invariant_of-self-4 : goal.invariant_of-self-4
-invariant_of-self-4 g c =
+pub invariant_of-self-2 : goal.invariant_of-self-2
+invariant_of-self-2 g c =
     let w = c.self.inside in
     let more = subst (λ (x : Work). x.vcpu.done < length x.vcpu.part.lines) (sym c.self.view_is) c.requires.unfinished in
     let e = c.in_ok-outcome.ensures in
