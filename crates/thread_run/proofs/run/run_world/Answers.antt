@@ -1,4 +1,4 @@
-use Rattle.std.proofs.Common.{◌≡◌, ◌+◌, IsTrue, List, length, sym, ap, subst, ◌∙◌}
+use Rattle.std.proofs.Common.{◌≡◌, IsTrue, List, sym, ap, subst, ◌∙◌}
 use Rattle.argo_model.specs.Runs.Script.{Script, Section, is_lawful}
 use Rattle.thread_run.specs.Workers.{AllMayWork, AreWorkersOf}
 use Rattle.thread_run.proofs.ScriptLaws.{all_may}
