@@ -65,13 +65,13 @@ pub fn deliver<A: Plan, B: Ledger, C: Ledger, P: Pause, R: Wait>(
     } = sent;
     let rings = pass.read(rt, &receiver.live.rings);
     let met = rings.value().find(to_port, caller.party.id);
-    let outcome = offer(caller, rt, pass, met, offer);
+    let outcome = offer_if_met(caller, rt, pass, met, offer);
     pass.end_read(rings);
     outcome
 }
 
 // Offers a message to the ring that the caller meets, where it meets one.
-fn offer<A: Plan, B: Ledger, C: Ledger, P: Pause, R: Wait>(
+fn offer_if_met<A: Plan, B: Ledger, C: Ledger, P: Pause, R: Wait>(
     caller: &Caller<'_, A, B, C, P>,
     rt: &R,
     pass: &mut WorldPass<A, B, C>,
