@@ -1,5 +1,4 @@
 pub mod Closed
-pub mod Ends
 pub mod Plans
 pub mod Possible
 pub mod Whole

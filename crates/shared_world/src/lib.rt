@@ -2,7 +2,7 @@
 //!
 //! The layer above uses one contract: `World::act` performs an action under its locks, its outcome is possible for the script, and it is
 //! counted in the pass as one entry of the journal. `World::close` gives the journal, exact totals, and the domains as they stand. It
-//! stands on shared_acts, which has the actions that go on beside one another, and on shared_parts, what lies behind the locks.
+//! stands on shared_acts, which has the actions that go on beside one another, and on shared_ends, which has acts on whole domains.
 #![tactic(auto)]
 
 mod blanks;

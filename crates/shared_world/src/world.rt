@@ -10,12 +10,12 @@ ghost use Rattle.shared_steps.specs.Passes.{AreFresh, stepped};
 ghost use Rattle.shared_world.specs.Possible.{is_possible_at, may_end};
 
 use crate::blanks::Blanks;
-use crate::ends::End;
 use argo_base::NoMemory;
 use argo_board::{Board, Pass};
 use argo_model::{Action, Actor, Outcome, Part, Scripts};
 use lock_tokens::{Gate, RwGate};
-use shared_acts::Caller;
+use shared_acts::{Caller, act};
+use shared_ends::End;
 use shared_parts::{Domains, Plan};
 use shared_steps::{Pause, Steps, WorldPass};
 use std::alloc::Global;
@@ -164,7 +164,7 @@ impl<A: Plan, B: Ledger, C: Ledger, P: Pause> World<A, B, C, P> {
             domains,
             party,
         };
-        caller.act(rt, pass, a)
+        act(&caller, rt, pass, a)
     }
 }
 

@@ -1,6 +1,0 @@
-use Rattle.std.proofs.Common.{◌≡◌}
-use Rattle.shared_acts.proofs.caller.Caller.unlist_doms.Given as goal
-
--- the pass is as it was
-abbrev pub invariant-loop-dom : goal.invariant-loop-dom
-invariant-loop-dom g l = l.pass ≡ l.fn.pass

@@ -1,5 +1,0 @@
-use Rattle.std.proofs.Common.{◌≡◌, take}
-use Rattle.shared_acts.proofs.waiting.copy_of.Given as goal
-
-abbrev pub invariant-loop-dom : goal.invariant-loop-dom
-invariant-loop-dom l = l.copy ≡ take l.dom-index l.doms
