@@ -4,7 +4,7 @@
 //! one entry of the journal. It stands on shared_memory, shared_rings and shared_sends, which have the actions by their subjects.
 #![tactic(auto)]
 
-mod act;
+mod acts;
 
-pub use act::act;
+pub use acts::act;
 pub use shared_caller::Caller;
