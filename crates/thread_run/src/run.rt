@@ -48,7 +48,7 @@ pub fn run_threads_with<R: Threads + Wait + Sync, P: Pause + Send + Sync>(
 }
 
 // Runs it over the three ledgers.
-#[tactic(auto, using(crate::proofs::ScriptLaws::all_may, crate::proofs::WorkerLaws::same_workers, crate::proofs::WorkerLaws::in_order, crate::proofs::WorkerLaws::parts_of, crate::proofs::WorkerLaws::whole))]
+#[tactic(auto, using(crate::proofs::WorkerLaws::same_workers, crate::proofs::WorkerLaws::in_order, crate::proofs::WorkerLaws::whole))]
 fn run_world<
     A: Plan + Send + Sync,
     B: Ledger + Send + Sync,
