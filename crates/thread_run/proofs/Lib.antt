@@ -1,0 +1,6 @@
+mod AskLaws
+mod ProgramLaws
+mod EndLaws
+mod ScriptLaws
+mod StepLaws
+mod WorkerLaws
