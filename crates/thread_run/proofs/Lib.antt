@@ -3,4 +3,5 @@ mod ProgramLaws
 mod EndLaws
 mod ScriptLaws
 mod StepLaws
+mod TestLaws
 mod WorkerLaws

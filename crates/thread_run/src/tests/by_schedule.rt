@@ -139,7 +139,7 @@ fn picks_of(alloc: Global, turns: &[Turn]) -> Result<Vec<u32>, NoMemory> {
 }
 
 // Makes the steps in both worlds.
-#[tactic(auto, using(crate::proofs::ScriptLaws::all_may, crate::proofs::WorkerLaws::in_order, crate::proofs::WorkerLaws::parts_of))]
+#[tactic(auto, using(crate::proofs::ScriptLaws::all_may, crate::proofs::TestLaws::order_after, crate::proofs::TestLaws::parts_after))]
 fn run_both<A: Plan, B: Ledger, C: Ledger, R: Wait>(
     rt: &R,
     alloc: Global,
@@ -171,6 +171,7 @@ fn run_both<A: Plan, B: Ledger, C: Ledger, R: Wait>(
 }
 
 // The first step that differs.
+#[tactic(auto, using(crate::proofs::TestLaws::same_numbers))]
 fn steps_differ<A: Plan, B: Ledger, C: Ledger, P: Pause, R: Wait>(
     rt: &R,
     world: &World<A, B, C, P>,
@@ -182,7 +183,11 @@ fn steps_differ<A: Plan, B: Ledger, C: Ledger, P: Pause, R: Wait>(
 {
     'steps: for v in picks {
         let place = *v as usize;
-        if place >= workers.len() || !is_same_step(rt, world, &mut workers[place], machine, *v)? {
+        if place >= workers.len() {
+            return Ok(Some(Differs::Step(*v)));
+        }
+        let same = is_same_step(rt, world, &mut workers[place], machine, *v)?;
+        if !same {
             return Ok(Some(Differs::Step(*v)));
         }
     }
