@@ -4,4 +4,5 @@ mod EndLaws
 mod ScriptLaws
 mod StepLaws
 mod TestLaws
+mod CourseLaws
 mod WorkerLaws

@@ -82,6 +82,11 @@ module _ (f : Facts) (actors : List Actor) (v : VcpuAt) (pass : Carried) (heard 
     free = is.free;
     progress = is.progress;
     stands = on.stands is.progress is.stands;
+    done =
+        let done = is.done in
+        let same = on.done in
+        let lines : length w.part.lines ≡ length v.part.lines = ap (λ (s : Section). length s.lines) on.part in
+        omega (arith, done, same, lines);
     few = let few = is.few in let same = on.left in omega (arith, few, same);
     room_is = subst (λ (s : Section). length s.lines ≤ room) (sym on.part) is.room_is;
     all = is.all ∙ sym on.done;
@@ -106,6 +111,9 @@ module _ (f : Facts) (actors : List Actor) (v : VcpuAt) (pass : Carried) (heard 
           free = held;
           progress = progress_after is.progress o None;
           stands = stands;
+          done =
+              let lines : length w.part.lines ≡ length v.part.lines = ap (λ (s : Section). length s.lines) fed.part in
+              omega (arith, done, lines, more);
           few = let few = is.few in let nearer = fed.nearer in omega (arith, few, nearer, counts);
           room_is = subst (λ (s : Section). length s.lines ≤ room) (sym fed.part) is.room_is;
           all = is.all ∙ sym done;
@@ -127,6 +135,10 @@ module _ (f : Facts) (actors : List Actor) (v : VcpuAt) (pass : Carried) (heard 
           free = held;
           progress = progress_after is.progress o (Some reply);
           stands = fed.stands is.progress is.stands;
+          done =
+              let one_more = fed.done in
+              let lines : length w.part.lines ≡ length v.part.lines = ap (λ (s : Section). length s.lines) fed.part in
+              omega (arith, one_more, lines, more);
           few = let few = is.few in let nearer = fed.nearer in omega (arith, few, nearer, counts);
           room_is = subst (λ (s : Section). length s.lines ≤ room) (sym fed.part) is.room_is;
           all = let all = is.all in let done = fed.done in let sum = length-append heard (h ∷ []) in omega (arith, all, done, sum);

@@ -1,12 +1,12 @@
 -- Laws of the workers of all sections.
-use Rattle.std.proofs.Common.{◌≡◌, ℕ, suc, zero, ◌+◌, ◌<◌, List, [], ◌∷◌, ◌++◌, length, map, sum_by, All, slice_index_or, refl, sym, ap, subst, ◌∙◌, arith}
-use Rattle.std.proofs.lemmas.List.{length-append}
+use Rattle.std.proofs.Common.{◌≡◌, ℕ, suc, zero, ◌+◌, ◌<◌, List, [], ◌∷◌, ◌++◌, length, take, get_or, map, sum_by, All, slice_index_or, refl, sym, ap, subst, ◌∙◌, arith}
+use Rattle.std.proofs.lemmas.List.{length_push, take_more, map-append}
 use Rattle.argo_model.specs.declared.closed.HeardLine.{HeardLine}
 use Rattle.argo_model.specs.declared.closing.Totals.{Totals}
 use Rattle.argo_model.specs.Runs.Script.{Script, Section}
-use Rattle.argo_board.specs.Board.{tally, totals_of}
+use Rattle.argo_board.specs.Board.{totals_of}
 use Rattle.argo_board.specs.Journal.{IsFit, accepted_of, bytes_of}
-use Rattle.shared_steps.specs.Passes.{Carried, carried, AreFresh, StandInOrder}
+use Rattle.shared_steps.specs.Passes.{Carried, StandInOrder}
 use Rattle.shared_world.specs.declared.closed.Closed.{Closed}
 use Rattle.shared_world.specs.Whole.{IsHeardOut, AreHeardOut, IsWhole}
 use Rattle.thread_run.specs.Worker.{Work, SameSection}
@@ -81,15 +81,21 @@ parts_of parts ps ws ss same are is =
 
 -- ---- before the first step
 
-at_place : (before after : List Carried) (p d : Carried) → slice_index_or (before ++ p ∷ after) (length before) d ≡ p
-at_place [] after p d = refl
-at_place (x ∷ before) after p d = at_place before after p d
-
--- the pass that follows these is the one of their count
-pub fresh_here : (before after : List Carried) (p : Carried) → AreFresh (before ++ p ∷ after) → p ≡ carried (tally (length before) 0 0 0) []
-fresh_here before after p fresh =
-    let sum = length-append before (p ∷ after) in
-    sym (at_place before after p p) ∙ fresh (length before) p (omega (arith, sum))
+-- the worker of the pass that follows these
+pub worker_next : (sections : List Section) (taken : List Carried) (p : Carried) (ws : List Work) (w : Work) (s : Section)
+    → length ws ≡ length taken → AreWorkersOf ws (take (length taken) sections) → length taken < length sections → p.tally.vcpu ≡ length taken
+    → s ≡ get_or sections p.tally.vcpu s → w.vcpu.part ≡ s → w.number ≡ p.tally.vcpu
+    → (length (ws ++ w ∷ []) ≡ length (taken ++ p ∷ [])) × AreWorkersOf (ws ++ w ∷ []) (take (length (taken ++ p ∷ [])) sections)
+worker_next sections taken p ws w s count are below number here part is =
+    let one = length_push ws w in
+    let other = length_push taken p in
+    let at : s ≡ get_or sections (length taken) s = here ∙ ap (λ n. get_or sections n s) number in
+    let longer : take (length taken) sections ++ s ∷ [] ≡ take (length (taken ++ p ∷ [])) sections =
+    ap (λ x. take (length taken) sections ++ x ∷ []) at ∙ sym (take_more sections (length taken) s below) ∙ ap (λ n. take n sections) (sym other) in
+    let all : w.number ≡ 0 + length ws = omega (arith, is, number, count) in (
+      omega (arith, one, other, count),
+      subst (λ (ss : List Section). AreWorkersOf (ws ++ w ∷ []) ss) longer (worker_more 0 ws (take (length taken) sections) w s are part all),
+    )
 
 -- ---- after the last step
 
@@ -102,6 +108,22 @@ heard_more [] (y ∷ ts) hs s t h all out = absurd all
 heard_more (x ∷ ss) [] hs s t h all out = absurd all
 heard_more (x ∷ ss) (y ∷ ts) [] s t h all out = absurd all
 heard_more (x ∷ ss) (y ∷ ts) (z ∷ hs) s t h all out = (all.0, heard_more ss ts hs s t h all.1 out)
+
+-- one worker more is taken apart
+pub part_next : (ps : List Carried) (ws : List Work) (hs : List (List HeardLine)) (p : Carried) (w : Work) (h : List HeardLine)
+    → map (λ q. q.tally.vcpu) ps ≡ map (λ x. x.number) ws → AreHeardOut (map (λ x. x.vcpu.part) ws) (map (λ q. totals_of q.tally) ps) hs
+    → p.tally.vcpu ≡ w.number → IsHeardOut w.vcpu.part (totals_of p.tally) h
+    → (map (λ q. q.tally.vcpu) (ps ++ p ∷ []) ≡ map (λ x. x.number) (ws ++ w ∷ []))
+    × AreHeardOut (map (λ x. x.vcpu.part) (ws ++ w ∷ [])) (map (λ q. totals_of q.tally) (ps ++ p ∷ [])) (hs ++ h ∷ [])
+part_next ps ws hs p w h numbers all number out = (
+  map-append (λ (q : Carried). q.tally.vcpu) ps (p ∷ []) ∙ ap (λ ns. ns ++ p.tally.vcpu ∷ []) numbers
+      ∙ ap (λ n. map (λ (x : Work). x.number) ws ++ n ∷ []) number ∙ sym (map-append (λ (x : Work). x.number) ws (w ∷ [])),
+  subst (λ (ss : List Section). AreHeardOut ss (map (λ q. totals_of q.tally) (ps ++ p ∷ [])) (hs ++ h ∷ []))
+      (sym (map-append (λ (x : Work). x.vcpu.part) ws (w ∷ [])))
+      (subst (λ (ts : List Totals). AreHeardOut (map (λ x. x.vcpu.part) ws ++ w.vcpu.part ∷ []) ts (hs ++ h ∷ []))
+      (sym (map-append (λ (q : Carried). totals_of q.tally) ps (p ∷ [])))
+      (heard_more (map (λ x. x.vcpu.part) ws) (map (λ q. totals_of q.tally) ps) hs w.vcpu.part (totals_of p.tally) h all out)),
+)
 
 -- the closed world is whole
 pub whole : (s : Script) (c : Closed) (ps : List Carried) (ws : List Work)

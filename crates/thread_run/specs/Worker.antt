@@ -33,6 +33,7 @@ pub record IsWork (f : Facts) (actors : List Actor) (v : VcpuAt) (pass : Carried
   pub free : pass.held ≡ []
   pub progress : Progress
   pub stands : StandsAt v progress
+  pub done : v.done ≤ length v.part.lines
   pub few : pass.tally.steps + left_of v < most_steps
   pub room_is : length v.part.lines ≤ room
   pub all : length heard ≡ v.done

@@ -35,7 +35,6 @@ impl<A: Plan, B: Ledger, C: Ledger> Model for Worker<A, B, C> {
     ghost invariant = { λ w. IsWork A.facts A.actors w.vcpu w.pass w.heard.items (vec_capacity w.heard) };
 }
 
-#[tactic(auto, using(crate::proofs::StepLaws::ends_here, crate::proofs::StepLaws::fit_next, crate::proofs::StepLaws::follows_next, crate::proofs::StepLaws::few_made, crate::proofs::StepLaws::room_next, crate::proofs::StepLaws::goes_on, crate::proofs::StepLaws::step_further, crate::proofs::StepLaws::step_heard))]
 impl<A: Plan, B: Ledger, C: Ledger> Worker<A, B, C> {
     /// One that has made no step of its section.
     pub(crate) fn new(
@@ -71,7 +70,7 @@ impl<A: Plan, B: Ledger, C: Ledger> Worker<A, B, C> {
         self.vcpu.finished()
     }
 
-    /// One step of the section, and its outcome. The reply is heard where it comes with it.
+    /// One step of the section, and its outcome. Where the reply comes with it, it is heard.
     pub(crate) fn step<P: Pause, R: Wait>(
         &mut self,
         rt: &R,
@@ -85,10 +84,11 @@ impl<A: Plan, B: Ledger, C: Ledger> Worker<A, B, C> {
         let action = self.vcpu.next()?;
         let outcome = world.act(rt, &mut self.pass, action)?;
         let step = self.pass.pass().steps();
-        if let Some(reply) = self.vcpu.feed_by(&outcome) {
-            self.heard.push_reserved(HeardLine { reply, step });
-            world.pause().replied(self.pass.vcpu(), line);
-        }
+        let Some(reply) = self.vcpu.feed_by(&outcome) else {
+            return Ok(outcome);
+        };
+        self.heard.push_reserved(HeardLine { reply, step });
+        world.pause().replied(self.pass.vcpu(), line);
         Ok(outcome)
     }
 

@@ -14,7 +14,6 @@ use std::alloc::Global;
 use std::sync::ledger::Ledger;
 
 /// One for each pass, which is that of the section of its number.
-#[tactic(auto, using(crate::proofs::WorkerLaws::worker_more, crate::proofs::WorkerLaws::fresh_here))]
 pub(crate) fn workers_of<A: Plan, B: Ledger, C: Ledger>(
     alloc: Global,
     parts: &[Part],
@@ -34,7 +33,6 @@ pub(crate) fn workers_of<A: Plan, B: Ledger, C: Ledger>(
 }
 
 /// The passes, and the replies of each section, where no section has a line left.
-#[tactic(auto, using(crate::proofs::WorkerLaws::heard_more))]
 pub(crate) fn parted<A: Plan, B: Ledger, C: Ledger>(
     alloc: Global,
     workers: Vec<Worker<A, B, C>>,
