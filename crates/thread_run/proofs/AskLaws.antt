@@ -1,5 +1,5 @@
 -- Laws of the words in which programs are written: none of them destroys a domain by itself.
-use Rattle.std.proofs.Common.{◌≡◌, ℕ, Bool, true, false, List, [], ◌∷◌, ◌++◌, take, drop, IsTrue, refl}
+use Rattle.std.proofs.Common.{ℕ, Bool, true, false, List, [], ◌∷◌, ◌++◌, take, drop, IsTrue, refl}
 use Rattle.argo_base.specs.declared.errno.Errno.{Errno}
 use Rattle.argo_base.specs.declared.errno.Errno.TheVariants.{Fault as efault}
 use Rattle.argo_base.specs.declared.piece.Piece.{Piece}

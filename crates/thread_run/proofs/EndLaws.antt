@@ -4,7 +4,7 @@ use Rattle.argo_model.specs.declared.scripts.Actor.{Actor}
 use Rattle.argo_model.specs.declared.line.Line.{Line}
 use Rattle.argo_model.specs.declared.action.Action.{Action}
 use Rattle.argo_model.specs.declared.action.Outcome.{Outcome}
-use Rattle.argo_model.specs.Programs.Asks.{Next, Do}
+use Rattle.argo_model.specs.Programs.Asks.{Do}
 use Rattle.argo_model.specs.Rules.Possible.{Facts}
 use Rattle.argo_model.specs.Runs.Run.{Progress}
 use Rattle.vcpu_machine.specs.declared.phase.Phase.{Phase}

@@ -1,5 +1,5 @@
 -- Laws of lawful scripts: each section may be worked through.
-use Rattle.std.proofs.Common.{◌≡◌, ℕ, suc, zero, ◌+◌, ◌<◌, ◌≤◌, Bool, true, false, ◌||◌, ◌==◌, nat_le, List, [], ◌∷◌, ◌++◌, length, map, sum_by, slice_get, slice_index_or, Some, IsTrue, flat_map, refl, sym, ap, subst, ◌∙◌, arith}
+use Rattle.std.proofs.Common.{◌≡◌, ℕ, suc, zero, ◌<◌, ◌≤◌, Bool, true, false, ◌||◌, ◌==◌, nat_le, List, [], ◌∷◌, ◌++◌, length, map, sum_by, slice_get, slice_index_or, Some, IsTrue, flat_map, refl, sym, ap, subst, ◌∙◌, arith}
 use Rattle.std.specs.List.{list_any}
 use Rattle.std.proofs.lemmas.Bool.{and_parts}
 use Rattle.std.proofs.lemmas.Bool.Decides.{nat_tests}
@@ -10,7 +10,6 @@ use Rattle.argo_model.specs.declared.line.Line.TheVariants.{Store, Load, Op, Awa
 use Rattle.argo_model.specs.Rules.Possible.{Facts, facts_of, destroyed_by, is_destroyed}
 use Rattle.argo_model.specs.Runs.Script.{Script, Section, turns_of, is_lawful}
 use Rattle.thread_run.specs.Ends.{LinesMayEnd}
-use Rattle.thread_run.specs.Worker.{MayWork}
 use Rattle.thread_run.specs.Workers.{AllMayWork}
 
 at_most : (a b : ℕ) → nat_le a b ≡ true → a ≤ b

@@ -1,5 +1,5 @@
 -- Laws of a step of a worker: what it may do, and that all that always holds of it still does.
-use Rattle.std.proofs.Common.{◌≡◌, ℕ, suc, zero, ◌+◌, ◌<◌, ◌≤◌, Bool, true, ◌&&◌, List, [], ◌∷◌, ◌++◌, length, slice_get, Some, None, IsTrue, refl, sym, ap, subst, ◌∙◌, arith}
+use Rattle.std.proofs.Common.{◌≡◌, ℕ, ◌+◌, ◌<◌, ◌≤◌, List, [], ◌∷◌, ◌++◌, length, slice_get, Some, None, IsTrue, refl, sym, ap, subst, ◌∙◌, arith}
 use Rattle.std.proofs.lemmas.Bool.{and_parts}
 use Rattle.std.proofs.lemmas.List.{length-append}
 use Rattle.argo_model.specs.declared.action.Action.{Action}
@@ -16,11 +16,10 @@ use Rattle.argo_model.specs.Rules.Possible.{Facts, is_possible}
 use Rattle.argo_model.specs.Runs.Final.{totals_after}
 use Rattle.argo_model.specs.Runs.Script.{Section}
 use Rattle.argo_board.specs.Board.{most_steps, totals_of}
-use Rattle.vcpu_machine.specs.Vcpu.{VcpuAt, StandsAt, GoesOn, Fed, ahead, left_of, progress_after}
+use Rattle.vcpu_machine.specs.Vcpu.{VcpuAt, GoesOn, Fed, ahead, progress_after}
 use Rattle.shared_steps.specs.Passes.{Carried}
 use Rattle.shared_world.specs.Possible.{may_end, is_possible_for, is_possible_at}
 use Rattle.shared_world.specs.Whole.{RiseAbove, last_step}
-use Rattle.thread_run.specs.Ends.{LinesMayEnd}
 use Rattle.thread_run.specs.Worker.{MayWork, IsWork}
 use Rattle.thread_run.proofs.EndLaws.{next_may_end}
 

@@ -9,7 +9,7 @@ use Rattle.argo_board.specs.Journal.{IsFit, accepted_of, bytes_of}
 use Rattle.shared_steps.specs.Passes.{Carried, StandInOrder}
 use Rattle.shared_world.specs.declared.closed.Closed.{Closed}
 use Rattle.shared_world.specs.Whole.{IsHeardOut, AreHeardOut, IsWhole}
-use Rattle.thread_run.specs.Worker.{Work, SameSection}
+use Rattle.thread_run.specs.Worker.{Work}
 use Rattle.thread_run.specs.Workers.{AreWorkersFrom, AreWorkersOf, AreOfTheSame}
 
 -- one worker more

@@ -169,9 +169,11 @@ fn every_section_is_heard_out(rt: HostRuntime) -> Result<(), Fail> {
         let replies = Replies::new();
         let closed = run_threads_with(&rt, alloc, &scripts, &replies)?;
         assert_eq!(rt; closed.heard.len(), lines.len());
-        for (v, count) in lines.iter().enumerate() {
-            assert_eq!(rt; closed.heard.get(v).len(), *count);
-            assert_eq!(rt; replies.lines[v].load(Ordering::SeqCst), *count as u64);
+        for (heard, count) in closed.heard.as_slice().iter().zip(lines) {
+            assert_eq!(rt; heard.len(), *count);
+        }
+        for (told, count) in replies.lines.iter().zip(lines) {
+            assert_eq!(rt; told.load(Ordering::SeqCst), *count as u64);
         }
         assert_eq!(rt; replies.wrong.load(Ordering::SeqCst), 0);
     }

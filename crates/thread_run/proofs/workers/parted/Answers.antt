@@ -1,4 +1,3 @@
-use Rattle.std.proofs.Common.{◌≡◌}
 use Rattle.thread_run.proofs.WorkerLaws.{part_next}
 use Rattle.thread_run.proofs.workers.parted.Goals as goal
 

@@ -1,4 +1,4 @@
-use Rattle.std.proofs.Common.{◌≡◌, ◌≤◌, length, vec_capacity, ap, arith}
+use Rattle.std.proofs.Common.{◌≤◌, length, vec_capacity, ap, arith}
 use Rattle.argo_model.specs.Runs.Script.{Section}
 use Rattle.thread_run.proofs.CourseLaws.{begins}
 use Rattle.thread_run.proofs.worker.Worker.new.Goals as goal

@@ -1,4 +1,4 @@
-use Rattle.std.proofs.Common.{◌≡◌, ◌<◌, List, length, vec_capacity, refl, sym, ap, subst, ◌∙◌, arith}
+use Rattle.std.proofs.Common.{◌≡◌, ◌<◌, length, vec_capacity, refl, sym, ap, subst, ◌∙◌, arith}
 use Rattle.argo_model.specs.declared.closed.HeardLine.{HeardLine}
 use Rattle.shared_steps.specs.Passes.{Carried}
 use Rattle.thread_run.specs.Worker.{Work, IsWork}
