@@ -7,21 +7,14 @@ ghost use Rattle.std.specs.Prelude.{◌≡◌, ◌+◌, ◌<◌, IsTrue, length,
 ghost use Rattle.argo_model.specs.Rules.Possible.{facts_of};
 ghost use Rattle.argo_model.specs.Runs.Run.{is_open, run};
 
-use super::{
-    DESTROY_ENDS_RINGS_AND_NOTICES, DESTROYED_BETWEEN_GATHER_AND_DELIVERY, PING_AND_PONG,
-    SECOND_BODY_GETS_A_NOTICE,
-};
 use crate::worker::Worker;
 use crate::workers::{parted, workers_of};
 use argo_base::NoMemory;
 use argo_machine::Machine;
-use argo_model::{ClosedDomains, Heard, Outcome, Scripts};
+use argo_model::{Outcome, Scripts, Short};
 use plain_world::PlainWorld;
 use script_text::read_scripts;
-use scripts::{
-    LONGER_RING_KEEPS_NOTICE, RESET_AND_CREATE, SEND_OUT_OF_OWN_SLOTS,
-    SHORTER_RING_SIGNALS_AND_TAKES_BODIES,
-};
+use scripts::ROWS;
 use shared_parts::Plan;
 use shared_world::{Blanks, Closed, NoPause, Pause, World, WorldPass};
 use std::alloc::Global;
@@ -29,82 +22,44 @@ use std::marker::Brand;
 use std::sync::Wait;
 use std::sync::ledger::{Blank, Ledger};
 use std::test::Fail;
-
-/// So many steps of one section, one after another.
-type Turn = (u32, u32);
-
-// The scripts, each with a schedule of all its steps.
-const ROWS: [(&[u8], &[Turn]); 9] = [
-    (SECOND_BODY_GETS_A_NOTICE, &[(0, 5), (1, 11)]),
-    (
-        DESTROY_ENDS_RINGS_AND_NOTICES,
-        &[(0, 10), (1, 12), (2, 2), (3, 3)],
-    ),
-    (
-        DESTROYED_BETWEEN_GATHER_AND_DELIVERY,
-        &[(0, 5), (1, 6), (2, 1), (1, 2)],
-    ),
-    (SEND_OUT_OF_OWN_SLOTS, &[(0, 24)]),
-    (
-        SHORTER_RING_SIGNALS_AND_TAKES_BODIES,
-        &[(0, 5), (1, 18), (2, 5), (3, 13)],
-    ),
-    (
-        LONGER_RING_KEEPS_NOTICE,
-        &[(0, 5), (1, 12), (2, 5), (3, 1), (4, 2)],
-    ),
-    (RESET_AND_CREATE, &[(0, 5), (1, 12), (2, 4), (3, 7), (4, 1)]),
-    (PING_AND_PONG, &[(0, 5), (1, 5), (2, 7), (3, 15), (4, 8)]),
-    (
-        PING_AND_PONG,
-        &[
-            (3, 1),
-            (1, 1),
-            (3, 2),
-            (0, 1),
-            (4, 4),
-            (1, 1),
-            (0, 2),
-            (2, 1),
-            (0, 1),
-            (4, 1),
-            (2, 1),
-            (0, 1),
-            (4, 1),
-            (1, 1),
-            (4, 1),
-            (1, 1),
-            (2, 1),
-            (3, 2),
-            (2, 1),
-            (1, 1),
-            (4, 2),
-            (2, 1),
-            (3, 3),
-            (4, 1),
-            (3, 1),
-            (4, 2),
-            (2, 1),
-            (3, 2),
-            (2, 1),
-            (4, 2),
-            (3, 10),
-            (4, 1),
-            (3, 2),
-            (4, 1),
-            (3, 3),
-            (4, 8),
-        ],
-    ),
-];
+use vcpu_machine::short_of;
 
 /// The first thing in which the two worlds differ.
 #[derive(Clone, Copy, Debug, PartialEq, Eq)]
 enum Differs {
     /// The outcomes of a step of this section, or one of the two has no such step.
     Step(u32),
+    /// The journal is not the outcomes of the steps in their order.
+    Journal,
     Replies,
     Domains,
+}
+
+/// A step of this section, and its outcome in short.
+type Step = (u32, Short);
+
+/// The machine over the plain world, and the steps that it has made.
+#[derive(Drop)]
+struct Plain {
+    machine: Machine<PlainWorld>,
+    steps: Vec<Step>,
+}
+
+impl Plain {
+    /// What differs in the end.
+    fn differs_from(&self, shared: &Closed) -> Result<Option<Differs>, NoMemory> {
+        let (domains, heard) = self.machine.closed()?;
+        if !same::journal(shared.entries.as_slice(), self.steps.as_slice()) {
+            return Ok(Some(Differs::Journal));
+        }
+        if !same::heard(shared.heard.as_slice(), heard.as_slice()) {
+            return Ok(Some(Differs::Replies));
+        }
+        if !same::domains(shared.domains.as_slice(), domains.as_slice()) {
+            return Ok(Some(Differs::Domains));
+        }
+        Ok(None)
+    }
 }
 
 // Runs a script by a schedule in both worlds.
@@ -112,7 +67,7 @@ fn first_difference<R: Wait>(
     rt: &R,
     alloc: Global,
     text: &[u8],
-    turns: &[Turn],
+    picks: &[u32],
 ) -> Result<Option<Differs>, NoMemory> {
     let Ok(s) = read_scripts(alloc, text) else {
         return Err(NoMemory);
@@ -123,19 +78,7 @@ fn first_difference<R: Wait>(
         sends: Blank::new(parts),
         loads: Blank::new(parts),
     };
-    let picks = picks_of(alloc, turns)?;
-    run_both::<Brand, Brand, Brand, R>(rt, alloc, &s, picks.as_slice(), blanks)
-}
-
-// The section of each step.
-fn picks_of(alloc: Global, turns: &[Turn]) -> Result<Vec<u32>, NoMemory> {
-    let mut picks = Vec::new(alloc);
-    for turn in turns {
-        for _ in 0..turn.1 {
-            picks.push(turn.0)?;
-        }
-    }
-    Ok(picks)
+    run_both::<Brand, Brand, Brand, R>(rt, alloc, &s, picks, blanks)
 }
 
 // Makes the steps in both worlds.
@@ -159,15 +102,17 @@ fn run_both<A: Plan, B: Ledger, C: Ledger, R: Wait>(
         alloc, s, NoPause, blanks,
     )?;
     let mut workers = workers_of(alloc, s.parts.as_slice(), passes)?;
-    let mut machine = Machine::<PlainWorld>::new(alloc, s)?;
-    let differs = steps_differ(rt, &world, &mut workers, &mut machine, picks)?;
+    let mut plain = Plain {
+        machine: Machine::new(alloc, s)?,
+        steps: Vec::with_capacity(alloc, picks.len())?,
+    };
+    let differs = steps_differ(rt, &world, &mut workers, &mut plain, picks)?;
     if differs.is_some() {
         return Ok(differs);
     }
     let (passes, heard) = parted(alloc, workers)?;
     let shared = world.close(passes, heard)?;
-    let plain = machine.closed()?;
-    Ok(ends_differ(&shared, &plain))
+    plain.differs_from(&shared)
 }
 
 // The first step that differs.
@@ -176,7 +121,7 @@ fn steps_differ<A: Plan, B: Ledger, C: Ledger, P: Pause, R: Wait>(
     rt: &R,
     world: &World<A, B, C, P>,
     workers: &mut Vec<Worker<A, B, C>>,
-    machine: &mut Machine<PlainWorld>,
+    plain: &mut Plain,
     picks: &[u32],
 ) -> Result<Option<Differs>, NoMemory>
     ensures { map (λ w. w.number) workers.new.items ≡ map (λ w. w.number) workers.old.items }
@@ -186,7 +131,7 @@ fn steps_differ<A: Plan, B: Ledger, C: Ledger, P: Pause, R: Wait>(
         if place >= workers.len() {
             return Ok(Some(Differs::Step(*v)));
         }
-        let same = is_same_step(rt, world, &mut workers[place], machine, *v)?;
+        let same = is_same_step(rt, world, &mut workers[place], plain, *v)?;
         if !same {
             return Ok(Some(Differs::Step(*v)));
         }
@@ -199,17 +144,18 @@ fn is_same_step<A: Plan, B: Ledger, C: Ledger, P: Pause, R: Wait>(
     rt: &R,
     world: &World<A, B, C, P>,
     worker: &mut Worker<A, B, C>,
-    machine: &mut Machine<PlainWorld>,
+    plain: &mut Plain,
     v: u32,
 ) -> Result<bool, NoMemory>
     ensures { worker.new.number ≡ worker.old.number }
 {
-    if worker.finished() || machine.finished(v) {
+    if worker.finished() || plain.machine.finished(v) {
         return Ok(false);
     }
     let shared = shared_step(rt, world, worker)?;
-    let plain = plain_step(machine, v)?;
-    Ok(same::outcomes(&shared, &plain))
+    let outcome = plain_step(&mut plain.machine, v)?;
+    plain.steps.push((v, short_of(&outcome)))?;
+    Ok(same::outcomes(&shared, &outcome))
 }
 
 // One step, and once more where memory ran out: then all goes on as if the first had not been.
@@ -238,21 +184,10 @@ fn plain_step(machine: &mut Machine<PlainWorld>, v: u32) -> Result<Outcome, NoMe
     }
 }
 
-// What differs in the end.
-fn ends_differ(shared: &Closed, plain: &(ClosedDomains, Heard)) -> Option<Differs> {
-    if !same::heard(shared.heard.as_slice(), plain.1.as_slice()) {
-        return Some(Differs::Replies);
-    }
-    if !same::domains(shared.domains.as_slice(), plain.0.as_slice()) {
-        return Some(Differs::Domains);
-    }
-    None
-}
-
 #[test]
 fn each_step_by_a_schedule_is_the_machines(rt: HostRuntime) -> Result<(), Fail> {
-    for (text, turns) in ROWS {
-        assert_eq!(rt; first_difference(&rt, rt.alloc(), text, turns)?, None);
+    for (text, picks) in ROWS {
+        assert_eq!(rt; first_difference(&rt, rt.alloc(), text, picks)?, None);
     }
     Ok(())
 }

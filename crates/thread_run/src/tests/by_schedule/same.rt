@@ -1,5 +1,7 @@
 //! Whether outcomes, replies, and domains as they stand are the same in both worlds.
+use super::Step;
 use argo_base::Message;
+use argo_board::Entry;
 use argo_model::{ClosedDomain, ClosedRing, HeardLine, HeardLines, Outcome, Reply};
 use vcpu_machine::short_of;
 
@@ -9,6 +11,13 @@ pub(super) fn outcomes(a: &Outcome, b: &Outcome) -> bool {
         (Outcome::Answer(a), Outcome::Answer(b)) => a == b,
         _ => short_of(a) == short_of(b),
     }
+}
+
+/// The journal, and the steps that were made.
+pub(super) fn journal(entries: &[Entry], steps: &[Step]) -> bool {
+    entries.len() == steps.len()
+        && entries.iter().zip(steps.iter()).all(|(entry, step)| entry.vcpu == step.0
+            && entry.short == step.1)
 }
 
 /// The replies of all sections, with their steps.

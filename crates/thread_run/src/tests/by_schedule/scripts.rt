@@ -1,6 +1,68 @@
-//! Worked scripts, each with a schedule of its steps: runs of a section and a count.
+//! Worked scripts, each with a schedule.
+use super::super::{
+    DESTROY_ENDS_RINGS_AND_NOTICES, DESTROYED_BETWEEN_GATHER_AND_DELIVERY, PING_AND_PONG,
+    SECOND_BODY_GETS_A_NOTICE,
+};
 
-pub(super) const SEND_OUT_OF_OWN_SLOTS: &[u8] = b"argo 1
+/// The scripts, each with a schedule: the section of each of its steps.
+pub(super) const ROWS: [(&[u8], &[u32]); 9] = [
+    (
+        SECOND_BODY_GETS_A_NOTICE,
+        &[0, 0, 0, 0, 0, 1, 1, 1, 1, 1, 1, 1, 1, 1, 1, 1],
+    ),
+    (
+        DESTROY_ENDS_RINGS_AND_NOTICES,
+        &[
+            0, 0, 0, 0, 0, 0, 0, 0, 0, 0, 1, 1, 1, 1, 1, 1, 1, 1, 1, 1, 1, 1, 2, 2, 3, 3, 3,
+        ],
+    ),
+    (
+        DESTROYED_BETWEEN_GATHER_AND_DELIVERY,
+        &[0, 0, 0, 0, 0, 1, 1, 1, 1, 1, 1, 2, 1, 1],
+    ),
+    (
+        SEND_OUT_OF_OWN_SLOTS,
+        &[
+            0, 0, 0, 0, 0, 0, 0, 0, 0, 0, 0, 0, 0, 0, 0, 0, 0, 0, 0, 0, 0, 0, 0, 0,
+        ],
+    ),
+    (
+        SHORTER_RING_SIGNALS_AND_TAKES_BODIES,
+        &[
+            0, 0, 0, 0, 0, 1, 1, 1, 1, 1, 1, 1, 1, 1, 1, 1, 1, 1, 1, 1, 1, 1, 1, 2, 2, 2, 2, 2, 3,
+            3, 3, 3, 3, 3, 3, 3, 3, 3, 3, 3, 3,
+        ],
+    ),
+    (
+        LONGER_RING_KEEPS_NOTICE,
+        &[
+            0, 0, 0, 0, 0, 1, 1, 1, 1, 1, 1, 1, 1, 1, 1, 1, 1, 2, 2, 2, 2, 2, 3, 4, 4,
+        ],
+    ),
+    (
+        RESET_AND_CREATE,
+        &[
+            0, 0, 0, 0, 0, 1, 1, 1, 1, 1, 1, 1, 1, 1, 1, 1, 1, 2, 2, 2, 2, 3, 3, 3, 3, 3, 3, 3, 4,
+        ],
+    ),
+    (
+        PING_AND_PONG,
+        &[
+            0, 0, 0, 0, 0, 1, 1, 1, 1, 1, 2, 2, 2, 2, 2, 2, 2, 3, 3, 3, 3, 3, 3, 3, 3, 3, 3, 3, 3,
+            3, 3, 3, 4, 4, 4, 4, 4, 4, 4, 4,
+        ],
+    ),
+    (
+        PING_AND_PONG,
+        &[
+            3, 1, 3, 3, 0, 4, 4, 4, 4, 1, 0, 0, 2, 0, 4, 2, 0, 4, 1, 4, 1, 2, 3, 3, 2, 1, 4, 4, 2,
+            3, 3, 3, 4, 3, 4, 4, 2, 3, 3, 2, 4, 4, 3, 3, 3, 3, 3, 3, 3, 3, 3, 3, 4, 3, 3, 4, 3, 3,
+            3, 4, 4, 4, 4, 4, 4, 4, 4,
+        ],
+    ),
+];
+
+const SEND_OUT_OF_OWN_SLOTS: &[u8] = b"argo 1
 domain 1 pages 2
 vcpu 1
 store 0 05000000f47f000060000000
@@ -15,7 +77,7 @@ load 0x1000 12
 op 3 0x20 0x30 1 7
 ";
 
-pub(super) const SHORTER_RING_SIGNALS_AND_TAKES_BODIES: &[u8] = b"argo 1
+const SHORTER_RING_SIGNALS_AND_TAKES_BODIES: &[u8] = b"argo 1
 domain 1 pages 2
 domain 2 pages 2
 vcpu 1
@@ -46,7 +108,7 @@ store 0x30 00010000000000001000000000000000
 op 3 0x20 0x30 1 7
 ";
 
-pub(super) const LONGER_RING_KEEPS_NOTICE: &[u8] = b"argo 1
+const LONGER_RING_KEEPS_NOTICE: &[u8] = b"argo 1
 domain 1 pages 2
 domain 2 pages 2
 vcpu 1
@@ -70,7 +132,7 @@ vcpu 1
 op 4 0 0 0 0
 ";
 
-pub(super) const RESET_AND_CREATE: &[u8] = b"argo 2
+const RESET_AND_CREATE: &[u8] = b"argo 2
 domain 1 pages 2
 domain 2 pages 1
 vcpu 1
