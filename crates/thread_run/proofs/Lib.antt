@@ -3,5 +3,6 @@ mod ProgramLaws
 mod EndLaws
 mod ScriptLaws
 mod StepLaws
+mod TestLaws
 mod CourseLaws
 mod WorkerLaws

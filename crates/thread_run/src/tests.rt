@@ -1,4 +1,7 @@
 //! What no contract says: that runs come to their end and do not always answer that memory ran out, and what a pause is told.
+mod by_schedule;
+mod pause;
+
 use super::run_threads_with;
 use argo_base::{NoMemory, RingId};
 use script_text::read_scripts;

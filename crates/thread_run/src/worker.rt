@@ -1,5 +1,5 @@
 //! A virtual CPU at work in a shared world.
-ghost use Rattle.std.specs.Prelude.{◌≡◌, ◌<◌, [], length, IfOk, OnOk};
+ghost use Rattle.std.specs.Prelude.{◌≡◌, ◌<◌, ◌≤◌, ◌↔◌, [], length, IsTrue, IfOk, OnOk};
 ghost use Rattle.argo_board.specs.Board.{tally, totals_of};
 ghost use Rattle.vcpu_machine.specs.Vcpu.{left_of};
 ghost use Rattle.shared_steps.specs.Passes.{carried};
@@ -7,7 +7,7 @@ ghost use Rattle.shared_world.specs.Whole.{IsHeardOut};
 ghost use Rattle.thread_run.specs.Worker.{MayWork, SameSection};
 
 use argo_base::NoMemory;
-use argo_model::{HeardLine, HeardLines, Part};
+use argo_model::{HeardLine, HeardLines, Outcome, Part};
 use shared_parts::Plan;
 use shared_world::{Pause, World, WorldPass};
 use std::alloc::Global;
@@ -56,15 +56,26 @@ impl<A: Plan, B: Ledger, C: Ledger> Worker<A, B, C> {
     pub(crate) fn work<P: Pause, R: Wait>(&mut self, rt: &R, world: &World<A, B, C, P>)
         ensures { SameSection self.old self.new }
     {
-        'steps: while !self.vcpu.finished() {
-            let Ok(()) = self.step(rt, world) else {
+        'steps: while !self.finished() {
+            let Ok(_) = self.step(rt, world) else {
                 return;
             };
         }
     }
 
-    // One step of the section, and the reply where it came with it.
-    fn step<P: Pause, R: Wait>(&mut self, rt: &R, world: &World<A, B, C, P>) -> Result<(), NoMemory>
+    /// Whether no line is left.
+    pub(crate) fn finished(&self) -> bool
+        ensures { IsTrue result ↔ (length self.now.vcpu.part.lines ≤ self.now.vcpu.done) }
+    {
+        self.vcpu.finished()
+    }
+
+    /// One step of the section, and its outcome. Where the reply comes with it, it is heard.
+    pub(crate) fn step<P: Pause, R: Wait>(
+        &mut self,
+        rt: &R,
+        world: &World<A, B, C, P>,
+    ) -> Result<Outcome, NoMemory>
         requires unfinished { self.old.vcpu.done < length self.old.vcpu.part.lines }
         ensures same { SameSection self.old self.new }
         ensures nearer { OnOk result (left_of self.new.vcpu < left_of self.old.vcpu) }
@@ -73,12 +84,12 @@ impl<A: Plan, B: Ledger, C: Ledger> Worker<A, B, C> {
         let action = self.vcpu.next()?;
         let outcome = world.act(rt, &mut self.pass, action)?;
         let step = self.pass.pass().steps();
-        let Some(reply) = self.vcpu.feed(outcome) else {
-            return Ok(());
+        let Some(reply) = self.vcpu.feed_by(&outcome) else {
+            return Ok(outcome);
         };
         self.heard.push_reserved(HeardLine { reply, step });
         world.pause().replied(self.pass.vcpu(), line);
-        Ok(())
+        Ok(outcome)
     }
 
     /// Its pass and its replies, where no line is left. One that has lines left wanted memory.

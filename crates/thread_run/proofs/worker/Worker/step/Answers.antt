@@ -50,8 +50,8 @@ pub returns-in_err-outcome-clause-same : goal.returns-in_err-outcome-clause-same
 returns-in_err-outcome-clause-same g c =
     rw (← c.self.view_is) (record { part = c.in_ok-action.ensures.same.part; number = c.in_err-outcome.ensures.vcpu })
 
-pub feed-requires-clause-can : goal.feed-requires-clause-can
-feed-requires-clause-can g c =
+pub feed_by-requires-clause-can : goal.feed_by-requires-clause-can
+feed_by-requires-clause-can g c =
     let w = c.self.inside in
     follows_next g.A.Plan.facts g.A.Plan.actors w.vcpu w.pass w.heard.items (vec_capacity w.heard) c.self.invariant
     c.next.new.self c.in_ok-action.action c.in_ok-outcome.outcome c.in_ok-action.ensures.same c.in_ok-action.ensures.action
@@ -62,7 +62,7 @@ invariant_of-self-in_default g c =
     let w = c.self.inside in
     let more = subst (λ (x : Work). x.vcpu.done < length x.vcpu.part.lines) (sym c.self.view_is) c.requires.unfinished in
     let e = c.in_ok-outcome.ensures in
-    step_further g.A.Plan.facts g.A.Plan.actors w.vcpu c.next.new.self c.feed.new.self w.pass c.act.new.pass w.heard.items (vec_capacity w.heard)
+    step_further g.A.Plan.facts g.A.Plan.actors w.vcpu c.next.new.self c.feed_by.new.self w.pass c.act.new.pass w.heard.items (vec_capacity w.heard)
     c.in_ok-outcome.outcome c.self.invariant more c.in_ok-action.ensures.same e.free e.vcpu e.counts c.in_default.ensures.fed
 
 pub returns-in_default-clause-same : goal.returns-in_default-clause-same
@@ -92,7 +92,7 @@ invariant_of-self-2 g c =
     let h : HeardLine = record { reply = c.in-Some.reply; step = c.steps-step.result } in
     let step : h.step ≡ c.act.new.pass.tally.steps = c.steps-step.ensures ∙ ap (λ t. t.steps) c.pass.ensures in
     rw (c.push_reserved.ensures.items, c.push_reserved.ensures.capacity)
-    (step_heard g.A.Plan.facts g.A.Plan.actors w.vcpu c.next.new.self c.feed.new.self w.pass c.act.new.pass w.heard.items (vec_capacity w.heard)
+    (step_heard g.A.Plan.facts g.A.Plan.actors w.vcpu c.next.new.self c.feed_by.new.self w.pass c.act.new.pass w.heard.items (vec_capacity w.heard)
     c.in_ok-outcome.outcome c.self.invariant more c.in_ok-action.ensures.same e.free e.vcpu e.counts c.in-Some.reply h c.in-Some.ensures.fed step)
 
 pub returns-clause-same : goal.returns-clause-same
