@@ -1,0 +1,7 @@
+mod AskLaws
+mod ProgramLaws
+mod EndLaws
+mod ScriptLaws
+mod StepLaws
+mod CourseLaws
+mod WorkerLaws

@@ -1,0 +1,3 @@
+pub mod Ends
+pub mod Worker
+pub mod Workers
