@@ -1,81 +1,25 @@
 -- Laws of how a run ends.
-use Rattle.std.proofs.Common.{◌≡◌, ◌⊎◌, inl, inr, ℕ, ◌<◌, true, cond, List, ◌++◌, length, Option, Some, None, Result, Ok, Err, refl, sym, ap, ◌∙◌, subst, arith, nat_lt, unwrap_or}
+use Rattle.std.proofs.Common.{◌≡◌, ◌⊎◌, inl, inr, ℕ, ◌<◌, ◌≤◌, true, cond, List, ◌++◌, length, Option, Some, None, Result, Ok, Err, refl, sym, ap, ◌∙◌, subst, arith, nat_lt, unwrap_or}
 use Rattle.std.proofs.lemmas.Bool.Decides.{nat_tests}
 use Rattle.std.proofs.lemmas.List.{append-nil, length-append}
 use Rattle.argo_outside.specs.Source.{behind, IsAtEnd}
 use Rattle.argo_outside.specs.Sink.{appended}
-use Rattle.argo_model.specs.declared.closing.Final.{Final}
 use Rattle.argo_model.specs.Runs.Script.{Script}
-use Rattle.argo_model.specs.Runs.Report.{report_of}
 use Rattle.script_text.specs.declared.kind.ScriptFault.{ScriptFault}
 use Rattle.script_text.specs.declared.kind.ScriptKind.TheVariants.{Size}
 use Rattle.script_text.specs.Scripts.{fault, scripts_of, script_of}
 use Rattle.script_text.specs.Lines.{lines_of, said_from}
-use Rattle.serial_run.specs.Picks.{IsRunByPicks}
 use Rattle.argo_laws.proofs.BesideLaws.{headline}
+use Rattle.argo_run.specs.declared.input.Unread.{Unread}
+use Rattle.argo_run.specs.declared.input.Unread.TheVariants as u
 use Rattle.argo_run.specs.declared.status.Status.{Status}
 use Rattle.argo_run.specs.declared.status.Status.TheVariants as s
-use Rattle.argo_run.specs.Due.{IsReport, fault_text}
-use Rattle.argo_run.specs.Ends.{IsRead, IsDone, IsNoScript, IfDone, IfScript, Agrees, AgreesWith, IsDoneWhereNothingFails}
-use Rattle.argo_run.specs.Serve.{WroteReport, RanScript, ServedFor}
-
-report_is : (seed : ℕ) (script : Script) (shown : Final) → IsRunByPicks script seed shown → IsReport seed script (report_of shown)
-report_is seed script shown ran = record { schedule = ran.0; picks = ran.1; is = ap report_of ran.2 }
-
-ran_script : (seed : ℕ) (script : Script) (shown : Final) (written written_new : Option (List ℕ)) (rose : Type 0) (status : Status) → IsRunByPicks script seed shown
-    → WroteReport (report_of shown) written written_new rose status → RanScript seed script written written_new rose status
-ran_script seed script shown written written_new rose s.Done ran wrote = (report_of shown, report_is seed script shown ran, wrote)
-ran_script seed script shown written written_new rose s.Usage ran wrote = absurd wrote
-ran_script seed script shown written written_new rose s.SourceFault ran wrote = absurd wrote
-ran_script seed script shown written written_new rose s.SinkFault ran wrote = (wrote.0, (report_of shown, report_is seed script shown ran, wrote.1))
-ran_script seed script shown written written_new rose (s.Script line kind) ran wrote = absurd wrote
-ran_script seed script shown written written_new rose s.NoMemory ran (inl same) = inl same
-ran_script seed script shown written written_new rose s.NoMemory ran (inr cut) = inr (report_of shown, report_is seed script shown ran, cut)
-
--- the end of a run whose report was written
-pub served : (seed : ℕ) (text : List ℕ) (script : Script) (shown : Final) (written written_new : Option (List ℕ)) (rose : Type 0) (status : Status) → scripts_of text ≡ Ok script
-    → IsRunByPicks script seed shown → WroteReport (report_of shown) written written_new rose status → ServedFor seed (scripts_of text) written written_new rose status
-served seed text script shown written written_new rose status is ran wrote =
-    let P : Result Script ScriptFault → Type 0 = λ given. ServedFor seed given written written_new rose status in
-    subst P (sym is) (ran_script seed script shown written written_new rose status ran wrote)
-
-script_ends : (seed : ℕ) (given : Result Script ScriptFault) (written written_new : Option (List ℕ)) (rose : Type 0) (status : Status) → ServedFor seed given written written_new rose status
-    → IfScript status (λ f. (given ≡ Err f) × (written_new ≡ appended written (fault_text f)))
-script_ends seed given written written_new rose s.Done h = tt
-script_ends seed given written written_new rose s.Usage h = tt
-script_ends seed given written written_new rose s.SourceFault h = tt
-script_ends seed given written written_new rose s.SinkFault h = tt
-script_ends seed (Ok script) written written_new rose (s.Script line kind) h = absurd h
-script_ends seed (Err f) written written_new rose (s.Script line kind) h = (ap Err h.0, h.1 ∙ ap (λ g. appended written (fault_text g)) h.0)
-script_ends seed given written written_new rose s.NoMemory h = tt
-
-no_script : (left left_new written written_new : Option (List ℕ)) (read : List ℕ) (status : Status) → IsRead left left_new read
-    → IfScript status (λ f. (scripts_of read ≡ Err f) × (written_new ≡ appended written (fault_text f)))
-    → IfScript status (λ f. IsNoScript f left left_new written written_new)
-no_script left left_new written written_new read s.Done is_read h = tt
-no_script left left_new written written_new read s.Usage is_read h = tt
-no_script left left_new written written_new read s.SourceFault is_read h = tt
-no_script left left_new written written_new read s.SinkFault is_read h = tt
-no_script left left_new written written_new read (s.Script line kind) is_read h = record { read = read; is_read = is_read; no_script = h.0; whole = h.1 }
-no_script left left_new written written_new read s.NoMemory is_read h = tt
-
--- status 5
-pub ends_no_script : (seed : ℕ) (left left_new written written_new : Option (List ℕ)) (read : List ℕ) (rose : Type 0) (status : Status) → IsRead left left_new read
-    → ServedFor seed (scripts_of read) written written_new rose status → IfScript status (λ f. IsNoScript f left left_new written written_new)
-ends_no_script seed left left_new written written_new read rose status is_read h =
-    no_script left left_new written written_new read status is_read (script_ends seed (scripts_of read) written written_new rose status h)
-
-agrees : (seed : ℕ) (given : Result Script ScriptFault) (written written_new : Option (List ℕ)) (rose : Type 0) (status : Status) → ServedFor seed given written written_new rose status
-    → Agrees given status
-agrees seed (Ok script) written written_new rose s.Done h = (script, refl)
-agrees seed (Err f) written written_new rose s.Done h = absurd h
-agrees seed (Ok script) written written_new rose s.Usage h = absurd h
-agrees seed (Err f) written written_new rose s.Usage h = absurd h
-agrees seed given written written_new rose s.SourceFault h = tt
-agrees seed given written written_new rose s.SinkFault h = tt
-agrees seed (Ok script) written written_new rose (s.Script line kind) h = absurd h
-agrees seed (Err f) written written_new rose (s.Script line kind) h = ap Err h.0
-agrees seed given written written_new rose s.NoMemory h = tt
+use Rattle.argo_run.specs.declared.words.Way.{Way}
+use Rattle.argo_run.specs.Due.{IsReport, IsDueForScript, IsDueFor, MaySplit, fault_text}
+use Rattle.argo_run.specs.Ends.{IsRead, IsReadAs, IsCutShort, EndsBy, Agrees, AgreesWith, IsRun, IsRunWhereNothingFails, RunsScript}
+use Rattle.argo_run.specs.Outside.{Reading, Writing, SinkRose, IsCut}
+use Rattle.argo_run.specs.Splits.{split_text}
+use Rattle.argo_run.specs.Serve.{HasFault, IsCauseOf, Wrote, Refused, RanScript}
 
 is_long : (n : ℕ) → 4194304 < n → nat_lt 4194304 n ≡ true
 is_long n long = grind (arith, nat_tests)
@@ -96,55 +40,153 @@ ended text (Some rest) read told (inr long) =
     let P : List ℕ → Type 0 = λ ys. 4194304 < length ys in
     too_long read (subst P whole longer) ∙ sym (too_long text (omega (arith, long)))
 
-done_of : (seed : ℕ) (left left_new written written_new : Option (List ℕ)) (read : List ℕ) (rose : Type 0) (given : Result Script ScriptFault) → IsRead left left_new read
-    → scripts_of read ≡ given → ServedFor seed given written written_new rose s.Done → IsAtEnd left_new ⊎ (length read ≡ 4194305) → IsDone seed left left_new written written_new
-done_of seed left left_new written written_new read rose (Err f) is_read is h all = absurd h
-done_of seed left left_new written written_new read rose (Ok script) is_read is h (inr long) =
+at_end : (script : Script) (read : List ℕ) (left_new : Option (List ℕ)) → scripts_of read ≡ Ok script → IsAtEnd left_new ⊎ (length read ≡ 4194305) → IsAtEnd left_new
+at_end script read left_new is (inl at_end) = at_end
+at_end script read left_new is (inr long) =
     let e : Ok script ≡ fault 0 Size = sym is ∙ too_long read (omega (arith, long)) in cc
-done_of seed left left_new written written_new read rose (Ok script) is_read is h (inl at_end) =
-    record {
-      read = read;
-      told = is_read.told;
-      at_end = at_end;
-      script = script;
-      is_script = is;
-      text = h.0;
-      report = h.1;
-      headline = headline script h.1.schedule;
-      whole = h.2;
-    }
 
--- status 0
-pub ends_done : (seed : ℕ) (left left_new written written_new : Option (List ℕ)) (read : List ℕ) (rose : Type 0) (status : Status) → IsRead left left_new read
-    → ServedFor seed (scripts_of read) written written_new rose status → IfDone status (IsDone seed left left_new written written_new)
-ends_done seed left left_new written written_new read rose s.Done is_read h = done_of seed left left_new written written_new read rose (scripts_of read) is_read refl h is_read.all
-ends_done seed left left_new written written_new read rose s.Usage is_read h = tt
-ends_done seed left left_new written written_new read rose s.SourceFault is_read h = tt
-ends_done seed left left_new written written_new read rose s.SinkFault is_read h = tt
-ends_done seed left left_new written written_new read rose (s.Script line kind) is_read h = tt
-ends_done seed left left_new written written_new read rose s.NoMemory is_read h = tt
+-- what was read and is a script is all that there was
+pub read_as : (script : Script) (r : Reading) (read : List ℕ) → IsRead r.left r.left_new read → scripts_of read ≡ Ok script → IsReadAs script r
+read_as script r read is_read is = record { read = read; told = is_read.told; at_end = at_end script read r.left_new is is_read.all; is_script = is }
+
+pub has_fault : (f : ScriptFault) (r : Reading) (read : List ℕ) → IsRead r.left r.left_new read → scripts_of read ≡ Err f → HasFault f r
+has_fault f r read is_read is = record { read = read; is_read = is_read; no_script = is }
 
 -- what was read answers for all that the source told
-pub same_answer : (left left_new : Option (List ℕ)) (text read : List ℕ) → IsRead left left_new text → left ≡ Some read → scripts_of read ≡ scripts_of text
-same_answer left left_new text read is_read here = ended text left_new read (sym is_read.told ∙ here) is_read.all
+same_answer : (r : Reading) (text read : List ℕ) → IsRead r.left r.left_new text → r.left ≡ Some read → scripts_of read ≡ scripts_of text
+same_answer r text read is_read here = ended text r.left_new read (sym is_read.told ∙ here) is_read.all
 
-pub ends_agreeing : (seed : ℕ) (left left_new written written_new : Option (List ℕ)) (text : List ℕ) (rose : Type 0) (status : Status) → IsRead left left_new text
-    → ServedFor seed (scripts_of text) written written_new rose status → AgreesWith left status
-ends_agreeing seed left left_new written written_new text rose status is_read h = λ read here.
+agrees_with : (r : Reading) (text : List ℕ) (status : Status) → IsRead r.left r.left_new text → Agrees (scripts_of text) status → AgreesWith r.left status
+agrees_with r text status is_read agrees = λ read here.
     let P : Result Script ScriptFault → Type 0 = λ given. Agrees given status in
-    subst P (sym (same_answer left left_new text read is_read here)) (agrees seed (scripts_of text) written written_new rose status h)
+    subst P (sym (same_answer r text read is_read here)) agrees
 
-complete : (seed : ℕ) (script : Script) (written written_new : Option (List ℕ)) (rose : Type 0) (status : Status) → RanScript seed script written written_new rose status → (rose → ⊥)
-    → (status ≡ s.Done) ⊎ (status ≡ s.NoMemory)
-complete seed script written written_new rose s.Done h still = inl refl
-complete seed script written written_new rose s.Usage h still = absurd h
-complete seed script written written_new rose s.SourceFault h still = absurd h
-complete seed script written written_new rose s.SinkFault h still = absurd (still h.0)
-complete seed script written written_new rose (s.Script line kind) h still = absurd h
-complete seed script written written_new rose s.NoMemory h still = inr refl
+whole_read : (script : Script) (r : Reading) → (is : IsReadAs script r) → IsRead r.left r.left_new is.read
+whole_read script r is = record { told = is.told; all = inl is.at_end }
 
-pub ends_complete : (seed : ℕ) (left left_new written written_new : Option (List ℕ)) (text : List ℕ) (source_rose rose : Type 0) (status : Status) → IsRead left left_new text
-    → ServedFor seed (scripts_of text) written written_new rose status → IsDoneWhereNothingFails left source_rose rose status
-ends_complete seed left left_new written written_new text source_rose rose status is_read h = λ read script here is source_still still.
-    let P : Result Script ScriptFault → Type 0 = λ given. ServedFor seed given written written_new rose status in
-    complete seed script written written_new rose status (subst P (sym (same_answer left left_new text read is_read here) ∙ is) h) still
+cut_due : (way : Way) (script : Script) (r : Reading) (w : Writing) (due : Status) (text : List ℕ) → IsReadAs script r → IsDueForScript way script due text
+    → IsCut w text → IsCutShort way r w
+cut_due way script r w due text is is_due cut =
+    let P : Result Script ScriptFault → Type 0 = λ given. IsDueFor way given due text in
+    record { read = is.read; is_read = whole_read script r is; due = due; text = text; is_due = subst P (sym is.is_script) is_due; cut = cut }
+
+due_ends : (way : Way) (script : Script) (r : Reading) (w : Writing) (due : Status) (text : List ℕ) (status : Status) → IsReadAs script r
+    → IsDueForScript way script due text → Wrote due text w status → EndsBy way r w status
+due_ends way script r w due text s.Done is is_due wrote =
+    let P : Status → Type 0 = λ st. IsDueForScript way script st text in
+    let report : IsReport way script text = subst P wrote.0 is_due in
+    record { script = script; is_read = is; text = text; report = report; headline = headline script report.schedule; whole = wrote.1 }
+due_ends way script r w due text s.Usage is is_due wrote =
+    let P : Status → Type 0 = λ st. IsDueForScript way script st text in absurd (subst P wrote.0 is_due)
+due_ends way script r w due text s.SourceFault is is_due wrote =
+    let P : Status → Type 0 = λ st. IsDueForScript way script st text in absurd (subst P wrote.0 is_due)
+due_ends way script r w due text s.SinkFault is is_due wrote = (wrote.0, cut_due way script r w due text is is_due wrote.1)
+due_ends way script r w due text (s.Script line kind) is is_due wrote =
+    let P : Status → Type 0 = λ st. IsDueForScript way script st text in absurd (subst P wrote.0 is_due)
+due_ends way script r w due text (s.Split x closed) is is_due wrote =
+    let P : Status → Type 0 = λ st. IsDueForScript way script st text in
+    let split : MaySplit way script x closed × (text ≡ split_text x) = subst P wrote.0 is_due in
+    record { script = script; is_read = is; split = split.0; whole = wrote.1 ∙ ap (appended w.written) split.1 }
+due_ends way script r w due text s.NoMemory is is_due (inl nothing) = inl nothing
+due_ends way script r w due text s.NoMemory is is_due (inr cut) = inr (cut_due way script r w due text is is_due cut)
+
+due_agrees : (way : Way) (script : Script) (w : Writing) (due : Status) (text : List ℕ) (status : Status) → IsDueForScript way script due text
+    → Wrote due text w status → Agrees (Ok script) status
+due_agrees way script w due text s.Done is_due wrote = (script, refl)
+due_agrees way script w due text s.Usage is_due wrote =
+    let P : Status → Type 0 = λ st. IsDueForScript way script st text in absurd (subst P wrote.0 is_due)
+due_agrees way script w due text s.SourceFault is_due wrote = tt
+due_agrees way script w due text s.SinkFault is_due wrote = tt
+due_agrees way script w due text (s.Script line kind) is_due wrote =
+    let P : Status → Type 0 = λ st. IsDueForScript way script st text in absurd (subst P wrote.0 is_due)
+due_agrees way script w due text (s.Split x closed) is_due wrote = (script, refl)
+due_agrees way script w due text s.NoMemory is_due wrote = tt
+
+-- a script that there is, is run
+abbrev IsRunIfRead : Way → Status → Result Script ScriptFault → Type 0
+IsRunIfRead way status (Ok script) = IsRun way script status
+IsRunIfRead way status (Err f) = ⊤
+
+due_runs : (way : Way) (script : Script) (w : Writing) (due : Status) (text : List ℕ) (status : Status) → IsDueForScript way script due text
+    → Wrote due text w status → (SinkRose w → ⊥) → IsRun way script status
+due_runs way script w due text s.Done is_due wrote still = tt
+due_runs way script w due text s.Usage is_due wrote still =
+    let P : Status → Type 0 = λ st. IsDueForScript way script st text in subst P wrote.0 is_due
+due_runs way script w due text s.SourceFault is_due wrote still =
+    let P : Status → Type 0 = λ st. IsDueForScript way script st text in subst P wrote.0 is_due
+due_runs way script w due text s.SinkFault is_due wrote still = still wrote.0
+due_runs way script w due text (s.Script line kind) is_due wrote still =
+    let P : Status → Type 0 = λ st. IsDueForScript way script st text in subst P wrote.0 is_due
+due_runs way script w due text (s.Split x closed) is_due wrote still =
+    let P : Status → Type 0 = λ st. IsDueForScript way script st text in (subst P wrote.0 is_due).0
+due_runs way script w due text s.NoMemory is_due wrote still = tt
+
+-- a script was read and run
+pub ran : (way : Way) (script : Script) (r : Reading) (w : Writing) (status : Status) → IsReadAs script r → RanScript way script w status → RunsScript way r w status
+ran way script r w status is (inl none) =
+    let Out : Status → Type 0 = λ st. RunsScript way r w st in
+    subst Out (sym none.0) (record { ends = inl none.1; agrees = λ read here. tt; complete = λ read script here is source_still still. tt })
+ran way script r w status is (inr (due, text, is_due, wrote)) =
+    let P : Result Script ScriptFault → Type 0 = λ given. Agrees given status in
+    let Q : Result Script ScriptFault → Type 0 = IsRunIfRead way status in
+    record {
+      ends = due_ends way script r w due text status is is_due wrote;
+      agrees = agrees_with r is.read status (whole_read script r is) (subst P (sym is.is_script) (due_agrees way script w due text status is_due wrote));
+      complete = λ read other here other_is source_still still.
+          subst Q (sym is.is_script ∙ sym (same_answer r is.read read (whole_read script r is) here) ∙ other_is) (due_runs way script w due text status is_due wrote still);
+    }
+
+-- the line of a script's fault is written with this status alone
+abbrev IsOfFault : Status → Type 0
+IsOfFault (s.Script line kind) = ⊤
+IsOfFault _ = ⊥
+
+cut_fault : (way : Way) (r : Reading) (w : Writing) (f : ScriptFault) → HasFault f r → IsCut w (fault_text f) → IsCutShort way r w
+cut_fault way r w f cause cut =
+    let P : Result Script ScriptFault → Type 0 = λ given. IsDueFor way given (s.Script f.line f.kind) (fault_text f) in
+    record { read = cause.read; is_read = cause.is_read; due = s.Script f.line f.kind; text = fault_text f; is_due = subst P (sym cause.no_script) (refl, refl); cut = cut }
+
+fault_ends : (way : Way) (r : Reading) (w : Writing) (f : ScriptFault) (status : Status) → HasFault f r
+    → Wrote (s.Script f.line f.kind) (fault_text f) w status → EndsBy way r w status
+fault_ends way r w f s.Done cause wrote = absurd (subst IsOfFault wrote.0 tt)
+fault_ends way r w f s.Usage cause wrote = absurd (subst IsOfFault wrote.0 tt)
+fault_ends way r w f s.SourceFault cause wrote = absurd (subst IsOfFault wrote.0 tt)
+fault_ends way r w f s.SinkFault cause wrote = (wrote.0, cut_fault way r w f cause wrote.1)
+fault_ends way r w f (s.Script line kind) cause wrote =
+    let P : Status → Type 0 = λ st. EndsBy way r w st in
+    subst P wrote.0 (record { read = cause.read; is_read = cause.is_read; no_script = cause.no_script; whole = wrote.1 })
+fault_ends way r w f (s.Split x closed) cause wrote = absurd (subst IsOfFault wrote.0 tt)
+fault_ends way r w f s.NoMemory cause (inl nothing) = inl nothing
+fault_ends way r w f s.NoMemory cause (inr cut) = inr (cut_fault way r w f cause cut)
+
+fault_agrees : (w : Writing) (f : ScriptFault) (status : Status) → Wrote (s.Script f.line f.kind) (fault_text f) w status → Agrees (Err f) status
+fault_agrees w f s.Done wrote = absurd (subst IsOfFault wrote.0 tt)
+fault_agrees w f s.Usage wrote = absurd (subst IsOfFault wrote.0 tt)
+fault_agrees w f s.SourceFault wrote = tt
+fault_agrees w f s.SinkFault wrote = tt
+fault_agrees w f (s.Script line kind) wrote =
+    let P : Status → Type 0 = λ st. Agrees (Err f) st in subst P wrote.0 refl
+fault_agrees w f (s.Split x closed) wrote = absurd (subst IsOfFault wrote.0 tt)
+fault_agrees w f s.NoMemory wrote = tt
+
+-- there was no script to run
+pub refused : (way : Way) (r : Reading) (w : Writing) (unread : Unread) (status : Status) → IsCauseOf unread r → Refused unread w status → RunsScript way r w status
+refused way r w u.Source status rose is =
+    let Out : Status → Type 0 = λ st. RunsScript way r w st in
+    subst Out (sym is.0) (record {
+      ends = record { rose = rose; nothing = is.1.nothing; count = is.1.count };
+      agrees = λ read here. tt;
+      complete = λ read script here is source_still still. source_still rose;
+    })
+refused way r w (u.Fault f) status cause is =
+    let P : Result Script ScriptFault → Type 0 = λ given. Agrees given status in
+    let Q : Result Script ScriptFault → Type 0 = IsRunIfRead way status in
+    record {
+      ends = fault_ends way r w f status cause is;
+      agrees = agrees_with r cause.read status cause.is_read (subst P (sym cause.no_script) (fault_agrees w f status is));
+      complete = λ read script here script_is source_still still.
+          subst Q (sym cause.no_script ∙ sym (same_answer r cause.read read cause.is_read here) ∙ script_is) tt;
+    }
+refused way r w u.NoMemory status cause is =
+    let Out : Status → Type 0 = λ st. RunsScript way r w st in
+    subst Out (sym is.0) (record { ends = inl is.1.nothing; agrees = λ read here. tt; complete = λ read script here is source_still still. tt })

@@ -1,50 +1,53 @@
 -- What the parts of a run promise.
-use Rattle.std.specs.Prelude.{◌≡◌, ℕ, ◌⊎◌, List, Result, Ok, Err, Option, ⊤}
-use Rattle.argo_outside.specs.Sink.{appended, CutShort}
+use Rattle.std.specs.Prelude.{◌≡◌, ℕ, ◌⊎◌, List, Err, ⊤}
+use Rattle.argo_model.specs.declared.closing.Final.{Final}
 use Rattle.argo_model.specs.Runs.Script.{Script}
+use Rattle.argo_model.specs.Runs.Final.{final_of}
 use Rattle.script_text.specs.declared.kind.ScriptFault.{ScriptFault}
+use Rattle.script_text.specs.Scripts.{scripts_of}
+use Rattle.argo_run.specs.declared.input.Unread.{Unread}
+use Rattle.argo_run.specs.declared.input.Unread.TheVariants as u
 use Rattle.argo_run.specs.declared.status.Status.{Status}
 use Rattle.argo_run.specs.declared.status.Status.TheVariants as s
-use Rattle.argo_run.specs.Due.{IsReport, fault_text, usage_text}
+use Rattle.argo_run.specs.declared.words.Way.{Way}
+use Rattle.argo_run.specs.Outside.{Reading, Writing, SourceRose, SinkRose, IsWritten, IsCut, IsUnwritten}
+use Rattle.argo_run.specs.Due.{IsDueForScript, fault_text}
+use Rattle.argo_run.specs.Ends.{IsRead}
 
--- nothing was written, or a part of the text
-abbrev pub IsPart : Option (List ℕ) → Option (List ℕ) → List ℕ → Type 0
-IsPart written written_new text = (written_new ≡ written) ⊎ CutShort written written_new text
+-- the bytes that were read are no script
+pub record HasFault (f : ScriptFault) (r : Reading) : Type 0 where
+  pub read : List ℕ
+  pub is_read : IsRead r.left r.left_new read
+  pub no_script : scripts_of read ≡ Err f
 
--- how the writing of a report ends
-abbrev pub WroteReport : List ℕ → Option (List ℕ) → Option (List ℕ) → Type 0 → Status → Type 0
-WroteReport text written written_new rose s.Done = written_new ≡ appended written text
-WroteReport text written written_new rose s.SinkFault = rose × CutShort written written_new text
-WroteReport text written written_new rose s.NoMemory = IsPart written written_new text
-WroteReport text written written_new rose _ = ⊥
+-- why there is no script
+abbrev pub IsCauseOf : Unread → Reading → Type 0
+IsCauseOf u.Source r = SourceRose r
+IsCauseOf (u.Fault f) r = HasFault f r
+IsCauseOf u.NoMemory r = ⊤
 
--- how the writing of a fault's line ends
-abbrev pub WroteFault : ScriptFault → Option (List ℕ) → Option (List ℕ) → Type 0 → Status → Type 0
-WroteFault f written written_new rose (s.Script line kind) = (f ≡ record { line = line; kind = kind }) × (written_new ≡ appended written (fault_text f))
-WroteFault f written written_new rose s.SinkFault = rose × CutShort written written_new (fault_text f)
-WroteFault f written written_new rose s.NoMemory = IsPart written written_new (fault_text f)
-WroteFault f written written_new rose _ = ⊥
+-- how the writing of a text ends, after which this status is due
+abbrev pub Wrote : Status → List ℕ → Writing → Status → Type 0
+Wrote due text w s.SinkFault = SinkRose w × IsCut w text
+Wrote due text w s.NoMemory = IsUnwritten w ⊎ IsCut w text
+Wrote due text w status = (due ≡ status) × IsWritten w text
 
--- how the writing of the usage line ends
-abbrev pub WroteUsage : Option (List ℕ) → Option (List ℕ) → Type 0 → Status → Type 0
-WroteUsage written written_new rose s.Usage = written_new ≡ appended written usage_text
-WroteUsage written written_new rose s.SinkFault = rose × CutShort written written_new usage_text
-WroteUsage written written_new rose _ = ⊥
+-- nothing was written, and the sink counted no fault
+pub record IsStill (w : Writing) : Type 0 where
+  pub nothing : IsUnwritten w
+  pub count : w.faults_new ≡ w.faults
 
--- how a run of a script ends: memory may run out before a byte is written
-abbrev pub RanScript : ℕ → Script → Option (List ℕ) → Option (List ℕ) → Type 0 → Status → Type 0
-RanScript seed script written written_new rose s.Done = (text : List ℕ) × IsReport seed script text × (written_new ≡ appended written text)
-RanScript seed script written written_new rose s.SinkFault = rose × ((text : List ℕ) × IsReport seed script text × CutShort written written_new text)
-RanScript seed script written written_new rose s.NoMemory = (written_new ≡ written) ⊎ ((text : List ℕ) × IsReport seed script text × CutShort written written_new text)
-RanScript seed script written written_new rose _ = ⊥
+-- how it ends where there is no script
+abbrev pub Refused : Unread → Writing → Status → Type 0
+Refused u.Source w status = (status ≡ s.SourceFault) × IsStill w
+Refused (u.Fault f) w status = Wrote (s.Script f.line f.kind) (fault_text f) w status
+Refused u.NoMemory w status = (status ≡ s.NoMemory) × IsStill w
 
--- how it ends for a script, and for what is none
-abbrev pub ServedFor : ℕ → Result Script ScriptFault → Option (List ℕ) → Option (List ℕ) → Type 0 → Status → Type 0
-ServedFor seed (Ok script) written written_new rose status = RanScript seed script written written_new rose status
-ServedFor seed (Err f) written written_new rose status = WroteFault f written written_new rose status
+-- what is shown of a run of the script
+abbrev pub IsShownBy : (Script → List ℕ → Type 0) → Script → Final → Type 0
+IsShownBy IsBy script shown = (schedule : List ℕ) × IsBy script schedule × (shown ≡ final_of script schedule)
 
--- why there are no bytes
-abbrev pub IsReadFault : Type 0 → Status → Type 0
-IsReadFault rose s.SourceFault = rose
-IsReadFault rose s.NoMemory = ⊤
-IsReadFault rose _ = ⊥
+-- how a run of a script ends: with what is due for it, or memory ran out before
+abbrev pub RanScript : Way → Script → Writing → Status → Type 0
+RanScript way script w status =
+    ((status ≡ s.NoMemory) × IsUnwritten w) ⊎ ((due : Status) × (text : List ℕ) × IsDueForScript way script due text × Wrote due text w status)

@@ -4,7 +4,8 @@ use Rattle.std.specs.List.{list_all}
 use Rattle.std.specs.Option.{option_and_then}
 use Rattle.std.specs.Str.{bytes_eq}
 use Rattle.argo_run.specs.declared.words.Form.{Form}
-use Rattle.argo_run.specs.declared.words.Form.TheVariants.{Serial, Gen}
+use Rattle.argo_run.specs.declared.words.Form.TheVariants.{Run, Gen}
+use Rattle.argo_run.specs.declared.words.Way.TheVariants.{Serial, Threads}
 
 abbrev pub is_digit : ℕ → Bool
 is_digit b = nat_le 48 b && nat_le b 57
@@ -24,9 +25,14 @@ number_of w = if is_number w then Some (decimal_value w) else None
 -- the form with this name and this number
 abbrev pub form_with : List ℕ → ℕ → Option Form
 form_with name n =
-    if bytes_eq name (codes "serial") then Some (Serial n) else if bytes_eq name (codes "gen") then Some (Gen n) else None
+    if bytes_eq name (codes "serial") then Some (Run (Serial n)) else if bytes_eq name (codes "gen") then Some (Gen n) else None
 
--- the form of the words `serial N` and `gen N`; other words have none
+-- the form of one word
+abbrev pub form_alone : List ℕ → Option Form
+form_alone name = if bytes_eq name (codes "threads") then Some (Run Threads) else None
+
+-- the form of the words `threads`, `serial N` and `gen N`; other words have none
 abbrev pub form_of : List (List ℕ) → Option Form
+form_of (name ∷ []) = form_alone name
 form_of (name ∷ number ∷ []) = option_and_then (form_with name) (number_of number)
 form_of _ = None

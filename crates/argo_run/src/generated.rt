@@ -1,8 +1,8 @@
 //! The words `gen N`: scripts are made from a number and run, and their summary is written.
 
 ghost use Rattle.std.specs.Prelude.{◌≤◌};
-ghost use Rattle.argo_outside.specs.Faults.{Rose};
-ghost use Rattle.argo_run.specs.Ends.{IsSummed, IsSummaryCutShort, IsSummaryLeftOff, IfDone, IfUsage, IfSourceFault, IfSinkFault, IfScript, IfNoMemory, IsDoneWhereSinkStands};
+ghost use Rattle.argo_run.specs.Ends.{EndsSummed};
+ghost use Rattle.argo_run.specs.Outside.{writing};
 
 use crate::Status;
 use argo_outside::Sink;
@@ -16,16 +16,7 @@ use std::alloc::Global;
 /// It reads nothing. It always returns, where the calls of its sink do.
 pub fn run_gen<K: Sink>(alloc: Global, n: u64, out: &mut K) -> Status
     ensures sink { K.faults out.old ≤ K.faults out.new }
-    ensures done { IfDone result (IsSummed n (K.written out.old) (K.written out.new)) }
-    ensures usage { IfUsage result ⊥ }
-    ensures source_fault { IfSourceFault result ⊥ }
-    ensures sink_fault { IfSinkFault result (Rose (K.faults out.old) (K.faults out.new)) }
-    ensures sink_fault_cut { IfSinkFault result
-        (IsSummaryCutShort n (K.written out.old) (K.written out.new)) }
-    ensures script { IfScript result (λ f. ⊥) }
-    ensures no_memory { IfNoMemory result
-        (IsSummaryLeftOff n (K.written out.old) (K.written out.new)) }
-    ensures complete { IsDoneWhereSinkStands (Rose (K.faults out.old) (K.faults out.new)) result }
+    ensures ends { EndsSummed n (writing K.faults K.written out.old out.new) result }
 {
     let Ok(scripts) = gen_scripts(alloc, n) else {
         return Status::NoMemory;

@@ -2,13 +2,22 @@
 
 ghost use Rattle.std.specs.Prelude.{◌≡◌, ◌+◌, ◌≤◌, ◌^◌, Some, None, map};
 ghost use Rattle.std.specs.String.{string_bytes};
-ghost use Rattle.argo_run.specs.Words.{is_digit, decimal_value, number_of, form_with, form_of};
+ghost use Rattle.argo_run.specs.Words.{is_digit, decimal_value, number_of, form_alone, form_with, form_of};
+
+/// How the script of the input is run.
+#[derive(Clone, Copy, Debug, PartialEq, Eq)]
+pub(crate) enum Way {
+    /// `serial N`: by the picks of this seed.
+    Serial(u64),
+    /// `threads`: in threads.
+    Threads,
+}
 
 /// What the words ask for.
 #[derive(Clone, Copy, Debug, PartialEq, Eq)]
 pub(crate) enum Form {
-    /// `serial N`: the script of the input is run by the picks of this seed.
-    Serial(u64),
+    /// The script of the input is run.
+    Run(Way),
     /// `gen N`: the scripts of this number are run by its picks.
     Gen(u64),
 }
@@ -18,7 +27,17 @@ pub(crate) fn form_of(words: &Vec<String>) -> Option<Form>
     ensures { result ≡ form_of (map string_bytes words.now.items) }
 {
     match words.as_slice() {
+        [name] => form_alone(name.as_str()),
         [name, number] => form_with(name.as_str(), number_of(number.as_bytes())?),
+        _ => None,
+    }
+}
+
+fn form_alone(name: &str) -> Option<Form>
+    ensures { result ≡ form_alone name.now }
+{
+    match name {
+        "threads" => Some(Form::Run(Way::Threads)),
         _ => None,
     }
 }
@@ -27,7 +46,7 @@ fn form_with(name: &str, n: u64) -> Option<Form>
     ensures { result ≡ form_with name.now n }
 {
     match name {
-        "serial" => Some(Form::Serial(n)),
+        "serial" => Some(Form::Run(Way::Serial(n))),
         "gen" => Some(Form::Gen(n)),
         _ => None,
     }

@@ -1,0 +1,69 @@
+//! The word `threads`: a script is read and run in threads, the run is compared with the machine's, and its report is written.
+
+ghost use Rattle.std.specs.Prelude.{◌≤◌, length};
+ghost use Rattle.argo_run.specs.declared.words.Way.TheVariants as w;
+ghost use Rattle.argo_run.specs.Ends.{RunsScript};
+ghost use Rattle.argo_run.specs.Outside.{reading, writing};
+ghost use Rattle.argo_run.specs.Serve.{RanScript};
+
+use crate::Status;
+use crate::input::read_script;
+use crate::output::{refuse, report, tell_split};
+use crate::serial::run_picked;
+use argo_model::Scripts;
+use argo_outside::{Sink, Source};
+use audit::{Audited, audit};
+use shared_world::Pause;
+use std::alloc::Global;
+use std::sync::Wait;
+use std::thread::Threads;
+use thread_run::run_threads_with;
+
+/// Scripts of fewer sections are run as by the seed 0, since nothing runs beside another there.
+const LEAST_SECTIONS: usize = 2;
+
+/// Reads a script, runs it in threads, and writes the report of the run, or the line of its fault, or of the first place where the
+/// machine does otherwise.
+#[tactic(auto, using(crate::proofs::EndLaws::ran, crate::proofs::EndLaws::refused, crate::proofs::TextLaws::picked))]
+pub(crate) fn run_in_threads<R: Threads + Wait + Sync, S: Source, K: Sink, P: Pause + Send + Sync>(
+    rt: &R,
+    alloc: Global,
+    src: &mut S,
+    out: &mut K,
+    pause: P,
+) -> Status
+    ensures source { S.faults src.old ≤ S.faults src.new }
+    ensures sink { K.faults out.old ≤ K.faults out.new }
+    ensures runs { RunsScript w.Threads (reading S.faults S.left src.old src.new)
+        (writing K.faults K.written out.old out.new) result }
+{
+    match read_script(alloc, src) {
+        Ok(scripts) if scripts.parts.len() < LEAST_SECTIONS => run_picked(alloc, 0, &scripts, out),
+        Ok(scripts) => run_audited(rt, alloc, &scripts, out, pause),
+        Err(unread) => refuse(alloc, out, unread),
+    }
+}
+
+// Runs a script in threads, and compares the run with the machine's.
+#[tactic(auto, using(crate::proofs::TextLaws::outcomes, crate::proofs::TextLaws::agreed, crate::proofs::TextLaws::differing))]
+fn run_audited<R: Threads + Wait + Sync, K: Sink, P: Pause + Send + Sync>(
+    rt: &R,
+    alloc: Global,
+    scripts: &Scripts,
+    out: &mut K,
+    pause: P,
+) -> Status
+    requires { LEAST_SECTIONS ≤ length scripts.now.sections }
+    ensures count { K.faults out.old ≤ K.faults out.new }
+    ensures ends { RanScript w.Threads scripts.now (writing K.faults K.written out.old out.new)
+        result }
+{
+    let Ok(closed) = run_threads_with(rt, alloc, scripts, pause) else {
+        return Status::NoMemory;
+    };
+    match audit(alloc, scripts, &closed) {
+        Ok(Audited::Agreed(shown)) => report(alloc, out, &shown),
+        Ok(Audited::Split(split)) => tell_split(alloc, out, split, closed),
+        Err(_) => Status::NoMemory,
+    }
+}
