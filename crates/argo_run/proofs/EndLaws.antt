@@ -40,14 +40,14 @@ ended text (Some rest) read told (inr long) =
     let P : List ℕ → Type 0 = λ ys. 4194304 < length ys in
     too_long read (subst P whole longer) ∙ sym (too_long text (omega (arith, long)))
 
-at_end : (script : Script) (read : List ℕ) (left_new : Option (List ℕ)) → scripts_of read ≡ Ok script → IsAtEnd left_new ⊎ (length read ≡ 4194305) → IsAtEnd left_new
-at_end script read left_new is (inl at_end) = at_end
-at_end script read left_new is (inr long) =
+read_all : (script : Script) (read : List ℕ) (left_new : Option (List ℕ)) → scripts_of read ≡ Ok script → IsAtEnd left_new ⊎ (length read ≡ 4194305) → IsAtEnd left_new
+read_all script read left_new is (inl at_end) = at_end
+read_all script read left_new is (inr long) =
     let e : Ok script ≡ fault 0 Size = sym is ∙ too_long read (omega (arith, long)) in cc
 
 -- what was read and is a script is all that there was
 pub read_as : (script : Script) (r : Reading) (read : List ℕ) → IsRead r.left r.left_new read → scripts_of read ≡ Ok script → IsReadAs script r
-read_as script r read is_read is = record { read = read; told = is_read.told; at_end = at_end script read r.left_new is is_read.all; is_script = is }
+read_as script r read is_read is = record { read = read; told = is_read.told; at_end = read_all script read r.left_new is is_read.all; is_script = is }
 
 pub has_fault : (f : ScriptFault) (r : Reading) (read : List ℕ) → IsRead r.left r.left_new read → scripts_of read ≡ Err f → HasFault f r
 has_fault f r read is_read is = record { read = read; is_read = is_read; no_script = is }
@@ -105,7 +105,7 @@ due_agrees way script w due text s.NoMemory is_due wrote = tt
 -- a script that there is, is run
 abbrev IsRunIfRead : Way → Status → Result Script ScriptFault → Type 0
 IsRunIfRead way status (Ok script) = IsRun way script status
-IsRunIfRead way status (Err f) = ⊤
+IsRunIfRead way status (Err f) = Unit {0}
 
 due_runs : (way : Way) (script : Script) (w : Writing) (due : Status) (text : List ℕ) (status : Status) → IsDueForScript way script due text
     → Wrote due text w status → (SinkRose w → ⊥) → IsRun way script status
@@ -138,7 +138,7 @@ ran way script r w status is (inr (due, text, is_due, wrote)) =
 
 -- the line of a script's fault is written with this status alone
 abbrev IsOfFault : Status → Type 0
-IsOfFault (s.Script line kind) = ⊤
+IsOfFault (s.Script line kind) = Unit {0}
 IsOfFault _ = ⊥
 
 cut_fault : (way : Way) (r : Reading) (w : Writing) (f : ScriptFault) → HasFault f r → IsCut w (fault_text f) → IsCutShort way r w

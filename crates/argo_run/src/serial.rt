@@ -17,7 +17,6 @@ use std::alloc::Global;
 /// Reads a script, runs it by the picks of a seed, and writes its report, or the line of its fault.
 ///
 /// It always returns, where the calls of its source and its sink do.
-#[tactic(auto, using(crate::proofs::EndLaws::ran, crate::proofs::EndLaws::refused))]
 pub fn run_serial<S: Source, K: Sink>(alloc: Global, seed: u64, src: &mut S, out: &mut K) -> Status
     ensures source { S.faults src.old ≤ S.faults src.new }
     ensures sink { K.faults out.old ≤ K.faults out.new }
@@ -31,7 +30,6 @@ pub fn run_serial<S: Source, K: Sink>(alloc: Global, seed: u64, src: &mut S, out
 }
 
 /// Runs a script by the picks of a seed, and writes its report.
-#[tactic(auto, using(crate::proofs::TextLaws::reported))]
 pub(crate) fn run_picked<K: Sink>(
     alloc: Global,
     seed: u64,

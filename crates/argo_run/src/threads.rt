@@ -24,7 +24,6 @@ const LEAST_SECTIONS: usize = 2;
 
 /// Reads a script, runs it in threads, and writes the report of the run, or the line of its fault, or of the first place where the
 /// machine does otherwise.
-#[tactic(auto, using(crate::proofs::EndLaws::ran, crate::proofs::EndLaws::refused, crate::proofs::TextLaws::picked))]
 pub(crate) fn run_in_threads<R: Threads + Wait + Sync, S: Source, K: Sink, P: Pause + Send + Sync>(
     rt: &R,
     alloc: Global,
@@ -38,14 +37,32 @@ pub(crate) fn run_in_threads<R: Threads + Wait + Sync, S: Source, K: Sink, P: Pa
         (writing K.faults K.written out.old out.new) result }
 {
     match read_script(alloc, src) {
-        Ok(scripts) if scripts.parts.len() < LEAST_SECTIONS => run_picked(alloc, 0, &scripts, out),
-        Ok(scripts) => run_audited(rt, alloc, &scripts, out, pause),
+        Ok(scripts) => run_beside(rt, alloc, &scripts, out, pause),
         Err(unread) => refuse(alloc, out, unread),
     }
 }
 
+// Runs a script, in threads where it has at least two sections.
+#[tactic(auto, using(crate::proofs::TextLaws::picked))]
+fn run_beside<R: Threads + Wait + Sync, K: Sink, P: Pause + Send + Sync>(
+    rt: &R,
+    alloc: Global,
+    scripts: &Scripts,
+    out: &mut K,
+    pause: P,
+) -> Status
+    ensures count { K.faults out.old ≤ K.faults out.new }
+    ensures ends { RanScript w.Threads scripts.now (writing K.faults K.written out.old out.new)
+        result }
+{
+    if scripts.parts.len() < LEAST_SECTIONS {
+        return run_picked(alloc, 0, scripts, out);
+    }
+    run_audited(rt, alloc, scripts, out, pause)
+}
+
 // Runs a script in threads, and compares the run with the machine's.
-#[tactic(auto, using(crate::proofs::TextLaws::outcomes, crate::proofs::TextLaws::agreed, crate::proofs::TextLaws::differing))]
+#[tactic(auto, using(crate::proofs::TextLaws::outcomes))]
 fn run_audited<R: Threads + Wait + Sync, K: Sink, P: Pause + Send + Sync>(
     rt: &R,
     alloc: Global,
@@ -53,7 +70,7 @@ fn run_audited<R: Threads + Wait + Sync, K: Sink, P: Pause + Send + Sync>(
     out: &mut K,
     pause: P,
 ) -> Status
-    requires { LEAST_SECTIONS ≤ length scripts.now.sections }
+    requires { 2 ≤ length scripts.now.sections }
     ensures count { K.faults out.old ≤ K.faults out.new }
     ensures ends { RanScript w.Threads scripts.now (writing K.faults K.written out.old out.new)
         result }
