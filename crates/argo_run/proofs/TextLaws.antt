@@ -1,5 +1,5 @@
 -- Laws of the texts that are due for a script.
-use Rattle.std.proofs.Common.{◌≡◌, ◌⊎◌, inl, inr, ℕ, ◌≤◌, List, length, Some, refl, ap, slice_set}
+use Rattle.std.proofs.Common.{inl, inr, ℕ, ◌≤◌, List, length, refl, ap, slice_set}
 use Rattle.std.specs.List.{All}
 use Rattle.std.proofs.lemmas.List.Elements.{All-set}
 use Rattle.argo_board.specs.declared.entry.Entry.{Entry}
