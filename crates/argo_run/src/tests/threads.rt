@@ -79,11 +79,19 @@ impl Meeting {
         }
     }
 
+    // The last line of section `v` that has its reply.
+    fn last_line(&self, v: usize) -> u64 {
+        match self.lines.get(v) {
+            Some(line) => line.load(Ordering::SeqCst),
+            None => 0,
+        }
+    }
+
     // Waits until section `v` has the reply of this line.
     fn hold(&self, v: usize, line: u64) {
         self.held.fetch_add(1, Ordering::SeqCst);
         for _ in 0..MOST_LOOKS {
-            if self.lines[v].load(Ordering::SeqCst) >= line {
+            if self.last_line(v) >= line {
                 return;
             }
             thread::yield_now();
