@@ -44,7 +44,7 @@ fn threads_do_what_the_machine_does(rt: HostRuntime) -> Result<(), Fail> {
         scripts::DESTROYED_BETWEEN_GATHER_AND_DELIVERY,
         notices_full.as_bytes(),
     ] {
-        for _ in 0..5 {
+        for _ in 0..2 {
             let mut src = source(alloc, text, &[])?;
             let mut out = large_sink(alloc)?;
             let status = run(&rt, alloc, &words, &mut src, &mut out);
