@@ -17,8 +17,8 @@ use std::sync::ledger::{Blank, Ledger};
 use std::thread;
 use std::thread::Threads;
 
-/// Runs a script in threads, one for each virtual CPU. The outcome is that of some schedule of its steps, which the entries of the
-/// closed world have; a second run may have another.
+/// Runs a script in threads, one for each virtual CPU. The order of their steps is the system's: the entries of the closed world tell
+/// it, and a second run may have another.
 pub fn run_threads<R: Threads + Wait + Sync>(
     rt: &R,
     alloc: Global,
