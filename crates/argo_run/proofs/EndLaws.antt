@@ -1,5 +1,5 @@
 -- Laws of how a run ends.
-use Rattle.std.proofs.Common.{◌≡◌, ◌⊎◌, inl, inr, ℕ, ◌<◌, ◌≤◌, true, cond, List, ◌++◌, length, Option, Some, None, Result, Ok, Err, refl, sym, ap, ◌∙◌, subst, arith, nat_lt, unwrap_or}
+use Rattle.std.proofs.Common.{◌≡◌, ◌⊎◌, inl, inr, ℕ, ◌<◌, true, cond, List, ◌++◌, length, Option, Some, None, Result, Ok, Err, refl, sym, ap, ◌∙◌, subst, arith, nat_lt, unwrap_or}
 use Rattle.std.proofs.lemmas.Bool.Decides.{nat_tests}
 use Rattle.std.proofs.lemmas.List.{append-nil, length-append}
 use Rattle.argo_outside.specs.Source.{behind, IsAtEnd}
@@ -16,7 +16,7 @@ use Rattle.argo_run.specs.declared.status.Status.{Status}
 use Rattle.argo_run.specs.declared.status.Status.TheVariants as s
 use Rattle.argo_run.specs.declared.words.Way.{Way}
 use Rattle.argo_run.specs.Due.{IsReport, IsDueForScript, IsDueFor, MaySplit, fault_text}
-use Rattle.argo_run.specs.Ends.{IsRead, IsReadAs, IsCutShort, EndsBy, Agrees, AgreesWith, IsRun, IsRunWhereNothingFails, RunsScript}
+use Rattle.argo_run.specs.Ends.{IsRead, IsReadAs, IsCutShort, EndsBy, Agrees, AgreesWith, IsRun, RunsScript}
 use Rattle.argo_run.specs.Outside.{Reading, Writing, SinkRose, IsCut}
 use Rattle.argo_run.specs.Splits.{split_text}
 use Rattle.argo_run.specs.Serve.{HasFault, IsCauseOf, Wrote, Refused, RanScript}

@@ -1,5 +1,5 @@
 -- Laws of the texts that are due for a script.
-use Rattle.std.proofs.Common.{◌≡◌, ◌⊎◌, inl, inr, ℕ, ◌≤◌, List, length, Some, refl, ap, slice_set}
+use Rattle.std.proofs.Common.{inl, inr, ℕ, ◌≤◌, List, length, refl, ap, slice_set}
 use Rattle.std.specs.List.{All}
 use Rattle.std.proofs.lemmas.List.Elements.{All-set}
 use Rattle.argo_board.specs.declared.entry.Entry.{Entry}
@@ -9,7 +9,7 @@ use Rattle.argo_model.specs.Runs.Script.{Script}
 use Rattle.shared_world.specs.declared.closed.Closed.{Closed}
 use Rattle.shared_world.specs.Whole.{IsWhole}
 use Rattle.audit.specs.declared.audited.Audited.TheVariants as a
-use Rattle.audit.specs.declared.split.Split.{Split}
+use Rattle.audit.specs.declared.audited.Audited.{Audited}
 use Rattle.audit.specs.Audit.{IsAuditOf}
 use Rattle.audit.specs.Entries.{schedule_in}
 use Rattle.audit.specs.Steps.{HasOutcome}
@@ -19,7 +19,7 @@ use Rattle.argo_run.specs.declared.words.Way.{Way}
 use Rattle.argo_run.specs.declared.words.Way.TheVariants as w
 use Rattle.argo_run.specs.Due.{IsScheduleOf, IsDueForScript}
 use Rattle.argo_run.specs.Outside.{Writing}
-use Rattle.argo_run.specs.Serve.{Wrote, IsShownBy, RanScript}
+use Rattle.argo_run.specs.Serve.{Wrote, IsShownBy, RanScript, ToldAudit}
 use Rattle.argo_run.specs.Splits.{split_text}
 
 -- the report of a run is due
@@ -36,16 +36,12 @@ outcomes script closed whole = λ k d inside. (whole.entries k d inside).1.0
 pub outcomes_after : (entries : List Entry) (k : ℕ) (e : Entry) → All HasOutcome entries → HasOutcome e → All HasOutcome (slice_set entries k e)
 outcomes_after entries k e all one = All-set HasOutcome entries k e one all
 
--- the report of a run in threads that agrees with the machine's is due
-pub agreed : (script : Script) (closed : Closed) (shown : Final) (out : Writing) (status : Status) → IsAuditOf script closed (a.Agreed shown)
-    → Wrote s.Done (report_of shown) out status → RanScript w.Threads script out status
-agreed script closed shown out status is wrote = reported w.Threads script shown out status (schedule_in closed.entries, is.1, is.2) wrote
-
--- the line of a split is due
-pub differing : (script : Script) (closed : Closed) (x : Split) (out : Writing) (status : Status) → 2 ≤ length script.sections → IsWhole script closed
-    → IsAuditOf script closed (a.Split x) → Wrote (s.Split x closed) (split_text x) out status → RanScript w.Threads script out status
-differing script closed x out status two whole is wrote =
-    inr (s.Split x closed, split_text x, (record { two = two; whole = whole; first = is }, refl), wrote)
+-- what an audit came to is due
+pub told_audit : (script : Script) (closed : Closed) (audited : Audited) (out : Writing) (status : Status) → 2 ≤ length script.sections → IsWhole script closed
+    → IsAuditOf script closed audited → ToldAudit audited closed out status → RanScript w.Threads script out status
+told_audit script closed (a.Agreed shown) out status two whole is told = reported w.Threads script shown out status (schedule_in closed.entries, is.1, is.2) told
+told_audit script closed (a.Split x) out status two whole is told =
+    inr (s.Split x closed, split_text x, (record { two = two; whole = whole; first = is }, refl), told)
 
 picked_due : (seed : ℕ) (script : Script) (due : Status) (text : List ℕ) → IsDueForScript (w.Serial seed) script due text → IsDueForScript w.Threads script due text
 picked_due seed script s.Done text report = record { schedule = report.schedule; picks = report.picks.complete; is = report.is }

@@ -1,5 +1,5 @@
 -- What a call makes of its source and of its sink.
-use Rattle.std.specs.Prelude.{◌≡◌, ℕ, ◌⊎◌, List, Option}
+use Rattle.std.specs.Prelude.{◌≡◌, ℕ, List, Option}
 use Rattle.argo_outside.specs.Faults.{Rose}
 use Rattle.argo_outside.specs.Sink.{appended, CutShort}
 

@@ -3,14 +3,19 @@ use Rattle.std.specs.Prelude.{◌≡◌, ℕ, ◌⊎◌, List, Err, ⊤}
 use Rattle.argo_model.specs.declared.closing.Final.{Final}
 use Rattle.argo_model.specs.Runs.Script.{Script}
 use Rattle.argo_model.specs.Runs.Final.{final_of}
+use Rattle.argo_model.specs.Runs.Report.{report_of}
 use Rattle.script_text.specs.declared.kind.ScriptFault.{ScriptFault}
 use Rattle.script_text.specs.Scripts.{scripts_of}
+use Rattle.shared_world.specs.declared.closed.Closed.{Closed}
+use Rattle.audit.specs.declared.audited.Audited.{Audited}
+use Rattle.audit.specs.declared.audited.Audited.TheVariants as a
 use Rattle.argo_run.specs.declared.input.Unread.{Unread}
 use Rattle.argo_run.specs.declared.input.Unread.TheVariants as u
 use Rattle.argo_run.specs.declared.status.Status.{Status}
 use Rattle.argo_run.specs.declared.status.Status.TheVariants as s
 use Rattle.argo_run.specs.declared.words.Way.{Way}
 use Rattle.argo_run.specs.Outside.{Reading, Writing, SourceRose, SinkRose, IsWritten, IsCut, IsUnwritten}
+use Rattle.argo_run.specs.Splits.{split_text}
 use Rattle.argo_run.specs.Due.{IsDueForScript, fault_text}
 use Rattle.argo_run.specs.Ends.{IsRead}
 
@@ -31,6 +36,11 @@ abbrev pub Wrote : Status → List ℕ → Writing → Status → Type 0
 Wrote due text w s.SinkFault = SinkRose w × IsCut w text
 Wrote due text w s.NoMemory = IsUnwritten w ⊎ IsCut w text
 Wrote due text w status = (due ≡ status) × IsWritten w text
+
+-- how the writing of what an audit of this world came to ends
+abbrev pub ToldAudit : Audited → Closed → Writing → Status → Type 0
+ToldAudit (a.Agreed shown) closed w status = Wrote s.Done (report_of shown) w status
+ToldAudit (a.Split x) closed w status = Wrote (s.Split x closed) (split_text x) w status
 
 -- nothing was written, and the sink counted no fault
 pub record IsStill (w : Writing) : Type 0 where

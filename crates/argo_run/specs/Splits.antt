@@ -1,5 +1,5 @@
 -- A run in threads that differs from the machine's.
-use Rattle.std.specs.Prelude.{◌≡◌, ℕ, ◌≤◌, List, ◌++◌, length, codes, decimal, Option, Some}
+use Rattle.std.specs.Prelude.{◌≡◌, ℕ, ◌≤◌, List, ◌++◌, length, codes, decimal, Some}
 use Rattle.argo_model.specs.declared.short.Short.{Short}
 use Rattle.argo_model.specs.Runs.Script.{Script}
 use Rattle.shared_world.specs.declared.closed.Closed.{Closed}

@@ -1,8 +1,9 @@
 //! The program: words, the bytes of a script and its report.
 //!
-//! `run` does all that the program does, `run_serial` what it does for the words `serial N`, and `run_gen` for `gen N`: with status 0
-//! what was written is exactly the report of the abstract Argo machine under the picks of the seed, or the summary of the scripts that
-//! the number makes. `end_of` says what the last flush leaves of that. It stands on all crates below it.
+//! `run` does all that the program does, and `run_with` the same with a pause for runs in threads. `run_serial` is what `run` does for
+//! the words `serial N`, and `run_gen` for `gen N`. With status 0 what was written is exactly the report of the abstract Argo machine,
+//! under the picks of the seed or, for `threads`, under the schedule that the report names; or the summary of the scripts that the number
+//! makes. `end_of` says what the last flush leaves of that. It stands on all crates below it.
 #![tactic(auto)]
 
 mod end;

@@ -6,14 +6,14 @@ ghost use Rattle.argo_model.specs.Runs.Report.{report_of};
 ghost use Rattle.argo_run.specs.declared.status.Status.TheVariants as s;
 ghost use Rattle.argo_run.specs.Due.{fault_text};
 ghost use Rattle.argo_run.specs.Outside.{writing};
-ghost use Rattle.argo_run.specs.Serve.{Wrote, Refused};
+ghost use Rattle.argo_run.specs.Serve.{Wrote, ToldAudit, Refused};
 ghost use Rattle.argo_run.specs.Splits.{split_text};
 
 use crate::Status;
 use crate::input::Unread;
 use argo_model::Final;
 use argo_outside::{Sink, write_whole};
-use audit::Split;
+use audit::{Audited, Split};
 use report_text::{WriteFault, write_report};
 use script_text::ScriptFault;
 use shared_world::Closed;
@@ -32,13 +32,24 @@ pub(crate) fn report<K: Sink>(alloc: Global, out: &mut K, shown: &Final) -> Stat
     }
 }
 
-/// Writes the line of a split.
-pub(crate) fn tell_split<K: Sink>(
+/// Writes what an audit of this world came to: the report of the run, or the line of its split.
+pub(crate) fn tell_audited<K: Sink>(
     alloc: Global,
     out: &mut K,
-    split: Split,
+    audited: Audited,
     closed: Closed,
 ) -> Status
+    ensures count { K.faults out.old ≤ K.faults out.new }
+    ensures ends { ToldAudit audited closed (writing K.faults K.written out.old out.new) result }
+{
+    match audited {
+        Audited::Agreed(shown) => report(alloc, out, &shown),
+        Audited::Split(split) => tell_split(alloc, out, split, closed),
+    }
+}
+
+// Writes the line of a split.
+fn tell_split<K: Sink>(alloc: Global, out: &mut K, split: Split, closed: Closed) -> Status
     ensures count { K.faults out.old ≤ K.faults out.new }
     ensures ends { Wrote (s.Split split closed) (split_text split)
         (writing K.faults K.written out.old out.new) result }

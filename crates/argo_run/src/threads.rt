@@ -8,11 +8,11 @@ ghost use Rattle.argo_run.specs.Serve.{RanScript};
 
 use crate::Status;
 use crate::input::read_script;
-use crate::output::{refuse, report, tell_split};
+use crate::output::{refuse, tell_audited};
 use crate::serial::run_picked;
 use argo_model::Scripts;
 use argo_outside::{Sink, Source};
-use audit::{Audited, audit};
+use audit::audit;
 use shared_world::Pause;
 use std::alloc::Global;
 use std::sync::Wait;
@@ -79,8 +79,7 @@ fn run_audited<R: Threads + Wait + Sync, K: Sink, P: Pause + Send + Sync>(
         return Status::NoMemory;
     };
     match audit(alloc, scripts, &closed) {
-        Ok(Audited::Agreed(shown)) => report(alloc, out, &shown),
-        Ok(Audited::Split(split)) => tell_split(alloc, out, split, closed),
+        Ok(audited) => tell_audited(alloc, out, audited, closed),
         Err(_) => Status::NoMemory,
     }
 }

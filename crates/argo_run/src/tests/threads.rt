@@ -44,7 +44,7 @@ fn threads_do_what_the_machine_does(rt: HostRuntime) -> Result<(), Fail> {
         scripts::DESTROYED_BETWEEN_GATHER_AND_DELIVERY,
         notices_full.as_bytes(),
     ] {
-        for _ in 0..5 {
+        for _ in 0..2 {
             let mut src = source(alloc, text, &[])?;
             let mut out = large_sink(alloc)?;
             let status = run(&rt, alloc, &words, &mut src, &mut out);
@@ -79,11 +79,19 @@ impl Meeting {
         }
     }
 
+    // The last line of section `v` that has its reply.
+    fn last_line(&self, v: usize) -> u64 {
+        match self.lines.get(v) {
+            Some(line) => line.load(Ordering::SeqCst),
+            None => 0,
+        }
+    }
+
     // Waits until section `v` has the reply of this line.
     fn hold(&self, v: usize, line: u64) {
         self.held.fetch_add(1, Ordering::SeqCst);
         for _ in 0..MOST_LOOKS {
-            if self.lines[v].load(Ordering::SeqCst) >= line {
+            if self.last_line(v) >= line {
                 return;
             }
             thread::yield_now();
