@@ -17,8 +17,8 @@ use std::sync::ledger::{Blank, Ledger};
 use std::thread;
 use std::thread::Threads;
 
-/// Runs a script in threads, one for each virtual CPU. The outcome is that of some schedule of its steps, which the entries of the
-/// closed world have; a second run may have another.
+/// Runs a script in threads, one for each virtual CPU. The order of their steps is the system's: the entries of the closed world tell
+/// it, and a second run may have another.
 pub fn run_threads<R: Threads + Wait + Sync>(
     rt: &R,
     alloc: Global,
@@ -48,7 +48,7 @@ pub fn run_threads_with<R: Threads + Wait + Sync, P: Pause + Send + Sync>(
 }
 
 // Runs it over the three ledgers.
-#[tactic(auto, using(crate::proofs::ScriptLaws::all_may, crate::proofs::WorkerLaws::same_workers, crate::proofs::WorkerLaws::in_order, crate::proofs::WorkerLaws::parts_of, crate::proofs::WorkerLaws::whole))]
+#[tactic(auto, using(crate::proofs::WorkerLaws::same_workers, crate::proofs::WorkerLaws::in_order, crate::proofs::WorkerLaws::whole))]
 fn run_world<
     A: Plan + Send + Sync,
     B: Ledger + Send + Sync,

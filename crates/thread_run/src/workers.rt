@@ -26,8 +26,8 @@ pub(crate) fn workers_of<A: Plan, B: Ledger, C: Ledger>(
 {
     let mut workers = Vec::with_capacity(alloc, passes.len())?;
     for pass in passes {
-        let part = &parts[pass.vcpu() as usize];
-        workers.push(Worker::new(alloc, part, pass)?)?;
+        let place = pass.vcpu() as usize;
+        workers.push(Worker::new(alloc, &parts[place], pass)?)?;
     }
     Ok(workers)
 }

@@ -17,8 +17,8 @@ loop-pass-preserved g c =
     let below : length taken < length c.args.parts.now = omega (arith, inside, count) in
     let fresh = t.1 ∙ c.requires.fresh (length taken) pass t.0 in
     let number : pass.tally.vcpu ≡ length taken = ap (λ (p : Carried). p.tally.vcpu) fresh in
-    let section = c.index-parts-vcpu.result in
-    let here : section ≡ get_or c.args.parts.now pass.tally.vcpu section = c.index-parts-vcpu.is ∙ ap (λ n. get_or c.args.parts.now n section) c.vcpu.ensures in
+    let section = c.index-parts-place.result in
+    let here : section ≡ get_or c.args.parts.now pass.tally.vcpu section = cc in
     let so_far = c.loop-pass.invariant in
     let e = c.in_ok-new.ensures in
     rw c.in_ok-push.ensures.items
