@@ -82,7 +82,6 @@ fn first_difference<R: Wait>(
 }
 
 // Makes the steps in both worlds.
-#[tactic(auto, using(crate::proofs::ScriptLaws::all_may, crate::proofs::TestLaws::order_after, crate::proofs::TestLaws::parts_after))]
 fn run_both<A: Plan, B: Ledger, C: Ledger, R: Wait>(
     rt: &R,
     alloc: Global,

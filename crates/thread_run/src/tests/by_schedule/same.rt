@@ -55,15 +55,15 @@ fn replies(a: &Reply, b: &Reply) -> bool {
                 head,
             },
             Reply::Msg {
-                src: of,
-                port: from,
-                kind: type_,
-                size: bytes,
-                head: first,
+                src: other_src,
+                port: other_port,
+                kind: other_kind,
+                size: other_size,
+                head: other_head,
             },
         ) => {
-            (src, port, kind, size) == (of, from, type_, bytes)
-                && head.as_slice() == first.as_slice()
+            (src, port, kind, size) == (other_src, other_port, other_kind, other_size)
+                && head.as_slice() == other_head.as_slice()
         }
         _ => false,
     }
