@@ -2,6 +2,8 @@
 use Rattle.std.specs.Prelude.{Bool, true, IsTrue, ⊤}
 use Rattle.argo_model.specs.declared.action.Action.{Action}
 use Rattle.argo_model.specs.declared.action.Action.TheVariants.{Rest, Fetch, Put, Register, Unregister, Deliver, Sweep, Query, Look, Destroy, Reset, Create}
+use Rattle.argo_board.specs.declared.entry.FlagChange.{FlagChange}
+use Rattle.argo_board.specs.declared.entry.FlagChange.TheVariants.{Keep, Clear}
 use Rattle.argo_model.specs.Rules.Possible.{Facts, is_destroyed}
 use Rattle.shared_ends.specs.declared.ends.End.{End}
 use Rattle.shared_ends.specs.declared.ends.End.TheVariants.{Destroy as EndDestroy, Reset as EndReset, Create as EndCreate}
@@ -34,3 +36,9 @@ abbrev pub MayTurn : Facts → Turn → Type 0
 MayTurn f (Destroyed dom) = IsTrue (is_destroyed f dom)
 MayTurn f (TurnReset dom) = ⊤
 MayTurn f (Created dom live) = IsTrue (is_destroyed f dom)
+
+-- a domain that is gone or reset has its flag clear
+abbrev pub flag_after : Turn → FlagChange
+flag_after (Destroyed dom) = Clear dom
+flag_after (TurnReset dom) = Clear dom
+flag_after (Created dom live) = Keep

@@ -3,8 +3,8 @@ ghost use Rattle.std.specs.Prelude.{◌≡◌, ◌<◌, [], ◌∷◌, IsTrue, I
 ghost use Rattle.argo_model.specs.declared.action.Outcome.TheVariants.{Done, Refused};
 ghost use Rattle.argo_model.specs.Rules.Outcomes.{is_outcome_of};
 ghost use Rattle.argo_board.specs.Board.{most_steps};
-ghost use Rattle.shared_steps.specs.Passes.{stepped};
-ghost use Rattle.shared_ends.specs.Ends.{MayTurn, may_end, the_action};
+ghost use Rattle.shared_steps.specs.Passes.{noted, stepped};
+ghost use Rattle.shared_ends.specs.Ends.{MayTurn, flag_after, may_end, the_action};
 
 use argo_base::{DomId, Errno, NoMemory};
 use argo_board::{Board, FlagChange};
@@ -120,6 +120,8 @@ fn ended<A: Plan, B: Ledger, C: Ledger>(
     requires ends { MayTurn A.facts turn }
     ensures done { IfOk result (λ o. o ≡ Done) }
     ensures pass { IfOk result (λ o. pass.new ≡ stepped pass.old o) }
+    ensures entry { IfOk result (λ o.
+        board.new.entries ≡ noted board.old.entries pass.old o (flag_after turn)) }
     ensures err { OnErr result (pass.new ≡ pass.old) }
 {
     board.reserve()?;

@@ -4,8 +4,9 @@ ghost use Rattle.argo_base.specs.Limits.{page_bytes};
 ghost use Rattle.argo_model.specs.declared.action.Action.TheVariants.{Fetch, Put};
 ghost use Rattle.argo_model.specs.Rules.Outcomes.{is_done, is_fault, is_fetched};
 ghost use Rattle.argo_model.specs.Rules.Possible.{is_possible};
+ghost use Rattle.argo_board.specs.declared.entry.FlagChange.TheVariants.{Keep};
 ghost use Rattle.argo_board.specs.Board.{most_steps};
-ghost use Rattle.shared_steps.specs.Passes.{stepped};
+ghost use Rattle.shared_steps.specs.Passes.{noted, stepped};
 
 use argo_base::{Bytes, NoMemory, PAGE_BYTES, Piece, slots};
 use argo_board::{Board, FlagChange};
@@ -246,7 +247,10 @@ fn put_at<A: Ledger, B: Ledger, C: Ledger, T: Pages>(
     requires in_page { writing.off + length writing.bytes.now ≤ page_bytes }
     ensures can { IfOk result (λ o. IsTrue (is_done o || is_fault o)) }
     ensures pass { IfOk result (λ o. pass.new ≡ stepped pass.old o) }
+    ensures entry { IfOk result
+        (λ o. board.new.entries ≡ noted board.old.entries pass.old o Keep) }
     ensures err { OnErr result (pass.new ≡ pass.old) }
+    ensures stays { OnErr result (board.new.entries ≡ board.old.entries) }
 {
     board.reserve()?;
     let outcome = if pages.put_bytes(writing)? {

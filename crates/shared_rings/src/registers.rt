@@ -4,9 +4,10 @@ ghost use Rattle.argo_base.specs.Slots.{is_legal, page_count};
 ghost use Rattle.argo_model.specs.declared.action.Action.TheVariants.{Register};
 ghost use Rattle.argo_model.specs.declared.action.Outcome.TheVariants.{Done};
 ghost use Rattle.argo_model.specs.Rules.Possible.{is_possible};
+ghost use Rattle.argo_board.specs.declared.entry.FlagChange.TheVariants.{Keep};
 ghost use Rattle.argo_board.specs.Board.{most_steps};
-ghost use Rattle.shared_steps.specs.Passes.{stepped};
-ghost use Rattle.shared_rings.specs.Made.{is_made, is_registered};
+ghost use Rattle.shared_steps.specs.Passes.{noted, stepped};
+ghost use Rattle.shared_rings.specs.Made.{is_made, is_registered, signals_of};
 
 use crate::ended::copy_of;
 use crate::registration::{Registration, Standing, found, refusal};
@@ -187,6 +188,8 @@ fn made<A: Ledger, B: Ledger, C: Ledger>(
     requires pages { length new.row ≡ page_count new.len }
     ensures can { IfOk result (λ o. o ≡ Done) }
     ensures pass { IfOk result (λ o. pass.new ≡ stepped pass.old o) }
+    ensures entry { IfOk result
+        (λ o. board.new.entries ≡ noted board.old.entries pass.old o Keep) }
     ensures err { OnErr result (pass.new ≡ pass.old) }
 {
     let NewRing { id, len, row } = new;
@@ -210,6 +213,8 @@ fn restarted<A: Ledger, B: Ledger, C: Ledger>(
     requires counted { length r.now.pages ≡ page_count r.now.len }
     ensures can { IfOk result (λ x. IsTrue (is_made x.0)) }
     ensures pass { IfOk result (λ x. pass.new ≡ stepped pass.old x.0) }
+    ensures entry { IfOk result (λ x. board.new.entries
+        ≡ noted board.old.entries pass.old x.0 (signals_of x.0 x.1)) }
     ensures err { OnErr result (pass.new ≡ pass.old) }
 {
     board.reserve()?;

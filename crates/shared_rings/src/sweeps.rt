@@ -2,9 +2,13 @@
 ghost use Rattle.std.specs.Prelude.{◌≡◌, ◌<◌, [], ◌∷◌, IsTrue, IfOk, OnErr};
 ghost use Rattle.argo_model.specs.declared.action.Action.TheVariants.{Sweep as Sweeps};
 ghost use Rattle.argo_model.specs.declared.action.Outcome.TheVariants.{Swept};
+ghost use Rattle.argo_model.specs.Rules.Effects.{after};
 ghost use Rattle.argo_model.specs.Rules.Possible.{is_possible};
+ghost use Rattle.argo_model.specs.Rules.Sweep as rule;
+ghost use Rattle.argo_board.specs.declared.entry.FlagChange.TheVariants.{Raise};
 ghost use Rattle.argo_board.specs.Board.{most_steps};
-ghost use Rattle.shared_steps.specs.Passes.{stepped};
+ghost use Rattle.ring_core.specs.Held.{Becomes, IsSaid};
+ghost use Rattle.shared_steps.specs.Passes.{noted, stepped};
 
 use crate::ended::copy_of;
 use argo_base::{Ended, Errno, NoMemory};
@@ -99,7 +103,12 @@ fn swept<A: Ledger, B: Ledger, C: Ledger>(
 ) -> Result<Ended, NoMemory>
     requires few { pass.old.tally.steps < most_steps }
     ensures pass { IfOk result (λ _. pass.new ≡ stepped pass.old (Swept serial)) }
+    ensures said { IfOk result (λ ended. IsSaid ring.old ended (λ p. (rule.sweep_ring p).signals)) }
+    ensures left { IfOk result (λ _. Becomes ring.old ring.new (λ p. after p (rule.sweep_ring p))) }
+    ensures entry { IfOk result (λ ended. board.new.entries
+        ≡ noted board.old.entries pass.old (Swept serial) (Raise ended)) }
     ensures err { OnErr result (pass.new ≡ pass.old) }
+    ensures stays { OnErr result (ring.new ≡ ring.old) }
 {
     board.reserve()?;
     let ended = ring.sweep();

@@ -3,8 +3,9 @@ ghost use Rattle.std.specs.Prelude.{◌≡◌, ◌<◌, [], ◌∷◌, IsTrue, I
 ghost use Rattle.argo_model.specs.declared.action.Action.TheVariants.{Unregister};
 ghost use Rattle.argo_model.specs.declared.action.Outcome.TheVariants.{Done};
 ghost use Rattle.argo_model.specs.Rules.Possible.{is_possible};
+ghost use Rattle.argo_board.specs.declared.entry.FlagChange.TheVariants.{Keep};
 ghost use Rattle.argo_board.specs.Board.{most_steps};
-ghost use Rattle.shared_steps.specs.Passes.{stepped};
+ghost use Rattle.shared_steps.specs.Passes.{noted, stepped};
 
 use argo_base::{Errno, NoMemory, RingId, RingKey};
 use argo_board::{Board, FlagChange};
@@ -88,6 +89,8 @@ fn ended<A: Ledger, B: Ledger, C: Ledger>(
 ) -> Result<Notices, NoMemory>
     requires { pass.old.tally.steps < most_steps }
     ensures pass { IfOk result (λ _. pass.new ≡ stepped pass.old Done) }
+    ensures entry { IfOk result
+        (λ _. board.new.entries ≡ noted board.old.entries pass.old Done Keep) }
     ensures err { OnErr result (pass.new ≡ pass.old) }
 {
     board.reserve()?;

@@ -1,9 +1,14 @@
 //! Questions for room in rings of other domains.
 ghost use Rattle.std.specs.Prelude.{◌≡◌, ◌<◌, [], ◌∷◌, IsTrue, IfOk, OnErr};
 ghost use Rattle.argo_model.specs.declared.action.Action.TheVariants.{Query};
+ghost use Rattle.argo_base.specs.Match.{key_in};
+ghost use Rattle.argo_model.specs.Rules.Effects.{after};
 ghost use Rattle.argo_model.specs.Rules.Possible.{is_possible};
+ghost use Rattle.argo_model.specs.Rules.Query as rule;
+ghost use Rattle.argo_board.specs.declared.entry.FlagChange.TheVariants.{Keep};
 ghost use Rattle.argo_board.specs.Board.{most_steps};
-ghost use Rattle.shared_steps.specs.Passes.{stepped};
+ghost use Rattle.ring_core.specs.Held.{Becomes};
+ghost use Rattle.shared_steps.specs.Passes.{noted, stepped};
 ghost use Rattle.shared_sends.specs.Comes.{is_answer};
 
 use argo_base::{DomId, Errno, NoMemory};
@@ -110,7 +115,7 @@ fn ask_of<A: Plan, B: Ledger, C: Ledger, P: Pause, R: Wait>(
     outcome
 }
 
-// Asks a ring, as a step.
+// Asks a ring, as a step: it is then what the rules leave.
 fn asked_of<A: Ledger, B: Ledger, C: Ledger>(
     board: &mut Board<A, B, C>,
     pass: &mut WorldPass<A, B, C>,
@@ -121,7 +126,12 @@ fn asked_of<A: Ledger, B: Ledger, C: Ledger>(
     requires { pass.old.tally.steps < most_steps }
     ensures can { IfOk result (λ o. IsTrue (is_answer o)) }
     ensures pass { IfOk result (λ o. pass.new ≡ stepped pass.old o) }
+    ensures left { IfOk result (λ _. Becomes ring.old ring.new
+        (λ p. after p (rule.query_ring p (key_in ring.old.id) dom need))) }
+    ensures entry { IfOk result
+        (λ o. board.new.entries ≡ noted board.old.entries pass.old o Keep) }
     ensures err { OnErr result (pass.new ≡ pass.old) }
+    ensures stays { OnErr result (ring.new ≡ ring.old) }
 {
     board.reserve()?;
     let answer = ring.query(dom, need);

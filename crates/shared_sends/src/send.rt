@@ -1,15 +1,18 @@
 //! Messages to rings of other domains.
-ghost use Rattle.std.specs.Prelude.{◌≡◌, ◌<◌, ◌||◌, [], ◌∷◌, IsTrue, IfOk, OnErr};
+ghost use Rattle.std.specs.Prelude.{◌≡◌, ℕ, ◌<◌, ◌||◌, [], ◌∷◌, IsTrue, IfOk, OnErr};
 ghost use Rattle.argo_base.specs.declared.errno.Errno.TheVariants.{ConnRefused};
 ghost use Rattle.argo_model.specs.declared.action.Action.TheVariants.{Deliver};
 ghost use Rattle.argo_model.specs.Programs.Program.{caller_of};
+ghost use Rattle.argo_model.specs.Rules.Deliver as deliver;
+ghost use Rattle.argo_model.specs.Rules.Effects.{after};
 ghost use Rattle.argo_model.specs.Rules.Fit.{is_fit_load};
 ghost use Rattle.argo_model.specs.Rules.Outcomes.{is_refused};
 ghost use Rattle.argo_model.specs.Rules.Possible.{is_possible};
 ghost use Rattle.argo_board.specs.Board.{most_steps};
+ghost use Rattle.ring_core.specs.Held.{Becomes, IsSaid};
 ghost use Rattle.ring_core.specs.Offers.{outcome_of as the_outcome};
-ghost use Rattle.shared_steps.specs.Passes.{stepped};
-ghost use Rattle.shared_sends.specs.Comes.{is_offered};
+ghost use Rattle.shared_steps.specs.Passes.{noted, stepped};
+ghost use Rattle.shared_sends.specs.Comes.{is_offered, signal_of};
 
 use argo_base::{DomId, DomList, Errno, NoMemory};
 use argo_board::{Board, FlagChange};
@@ -127,7 +130,7 @@ fn offer_to<A: Plan, B: Ledger, C: Ledger, P: Pause, R: Wait>(
     outcome
 }
 
-// Offers a message to a ring, as a step.
+// Offers a message to a ring, as a step: what the rules say of the ring, which is then what they leave.
 fn offered<A: Ledger, B: Ledger, C: Ledger>(
     board: &mut Board<A, B, C>,
     pass: &mut WorldPass<A, B, C>,
@@ -139,7 +142,14 @@ fn offered<A: Ledger, B: Ledger, C: Ledger>(
     requires short { IsTrue (is_fit_load offer.load) }
     ensures can { IfOk result (λ o. IsTrue (is_offered offer.load o)) }
     ensures pass { IfOk result (λ o. pass.new ≡ stepped pass.old o) }
+    ensures said { IfOk result (λ o. (owner : ℕ) →
+        IsSaid ring.old o (λ p. (deliver.offer p owner offer).outcome)) }
+    ensures left { IfOk result (λ _. (owner : ℕ) →
+        Becomes ring.old ring.new (λ p. after p (deliver.offer p owner offer))) }
+    ensures entry { IfOk result (λ o. board.new.entries
+        ≡ noted board.old.entries pass.old o (signal_of ring.old.id.owner o)) }
     ensures err { OnErr result (pass.new ≡ pass.old) }
+    ensures stays { OnErr result (ring.new ≡ ring.old) }
 {
     board.reserve()?;
     let outcome = outcome_of(ring.accept(offer));
@@ -148,7 +158,9 @@ fn offered<A: Ledger, B: Ledger, C: Ledger>(
 }
 
 // The receiver of a message that was accepted is signalled.
-fn change_of(outcome: &Outcome, owner: DomId) -> FlagChange {
+fn change_of(outcome: &Outcome, owner: DomId) -> FlagChange
+    ensures { result ≡ signal_of owner outcome.now }
+{
     if let Outcome::Accepted(_) = outcome {
         let mut doms = DomList::new();
         doms.push(owner);

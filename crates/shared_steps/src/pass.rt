@@ -4,7 +4,7 @@ ghost use Rattle.argo_model.specs.Rules.Shorts.{short_of as the_short};
 ghost use Rattle.argo_board.specs.Board.{most_steps, tally};
 ghost use Rattle.argo_board.specs.Journal.{IsOutcome};
 ghost use Rattle.lock_tokens.specs.Ranks.{IsAboveAll, IsLast, without_last};
-ghost use Rattle.shared_steps.specs.Passes.{carried, stepped};
+ghost use Rattle.shared_steps.specs.Passes.{carried, noted, stepped};
 
 use crate::short::short_of;
 use argo_board::{Board, Entry, FlagChange, Pass};
@@ -145,6 +145,7 @@ impl<A: Ledger, B: Ledger, C: Ledger> WorldPass<A, B, C> {
         requires short { IsOutcome (the_short outcome) }
         ensures outcome { result ≡ outcome }
         ensures pass { self.new ≡ stepped self.old outcome }
+        ensures entry { board.new.entries ≡ noted board.old.entries self.old outcome change }
     {
         let entry = Entry {
             vcpu: self.vcpu,

@@ -2,10 +2,12 @@
 ghost use Rattle.std.specs.Prelude.{◌≡◌, ◌<◌, IsTrue, IfOk, OnErr};
 ghost use Rattle.argo_model.specs.Rules.Outcomes.{is_looked};
 ghost use Rattle.argo_model.specs.Rules.Shorts.{short_of as the_short};
+ghost use Rattle.argo_model.specs.declared.action.Outcome.TheVariants.{Flag};
+ghost use Rattle.argo_board.specs.declared.entry.FlagChange.TheVariants.{Clear, Keep};
 ghost use Rattle.argo_board.specs.Board.{most_steps};
-ghost use Rattle.argo_board.specs.Journal.{IsOutcome};
+ghost use Rattle.argo_board.specs.Journal.{IsOutcome, is_raised};
 ghost use Rattle.lock_tokens.specs.Ranks.{IsAboveAll};
-ghost use Rattle.shared_steps.specs.Passes.{stepped};
+ghost use Rattle.shared_steps.specs.Passes.{noted, stepped};
 
 use crate::{Pause, WorldPass};
 use argo_base::{DomId, NoMemory};
@@ -41,7 +43,7 @@ impl<A: Ledger, B: Ledger, C: Ledger, P: Pause> Steps<A, B, C, P> {
         ensures err { OnErr result (pass.new ≡ pass.old) }
     {
         let mut part = pass.lock(rt, &self.board);
-        let outcome = noted(part.value_mut(), pass, outcome);
+        let outcome = note_on(part.value_mut(), pass, outcome);
         pass.unlock(part);
         outcome
     }
@@ -60,14 +62,14 @@ impl<A: Ledger, B: Ledger, C: Ledger, P: Pause> Steps<A, B, C, P> {
         ensures err { OnErr result (pass.new ≡ pass.old) }
     {
         let mut part = pass.lock(rt, &self.board);
-        let outcome = looked(part.value_mut(), pass, dom);
+        let outcome = look_on(part.value_mut(), pass, dom);
         pass.unlock(part);
         outcome
     }
 }
 
 // Notes a step that changes no flag.
-fn noted<A: Ledger, B: Ledger, C: Ledger>(
+fn note_on<A: Ledger, B: Ledger, C: Ledger>(
     board: &mut Board<A, B, C>,
     pass: &mut WorldPass<A, B, C>,
     outcome: Outcome,
@@ -76,22 +78,28 @@ fn noted<A: Ledger, B: Ledger, C: Ledger>(
     requires short { IsOutcome (the_short outcome) }
     ensures outcome { IfOk result (λ o. o ≡ outcome) }
     ensures pass { IfOk result (λ o. pass.new ≡ stepped pass.old o) }
+    ensures entry { IfOk result
+        (λ o. board.new.entries ≡ noted board.old.entries pass.old o Keep) }
     ensures err { OnErr result (pass.new ≡ pass.old) }
+    ensures stays { OnErr result (board.new.entries ≡ board.old.entries) }
 {
     board.reserve()?;
     Ok(pass.append(board, outcome, FlagChange::Keep))
 }
 
 // Tells a domain's flag and clears it.
-fn looked<A: Ledger, B: Ledger, C: Ledger>(
+fn look_on<A: Ledger, B: Ledger, C: Ledger>(
     board: &mut Board<A, B, C>,
     pass: &mut WorldPass<A, B, C>,
     dom: DomId,
 ) -> Result<Outcome, NoMemory>
     requires { pass.old.tally.steps < most_steps }
-    ensures flag { IfOk result (λ o. IsTrue (is_looked o)) }
+    ensures flag { IfOk result (λ o. o ≡ Flag (is_raised dom board.old.entries)) }
     ensures pass { IfOk result (λ o. pass.new ≡ stepped pass.old o) }
+    ensures entry { IfOk result
+        (λ o. board.new.entries ≡ noted board.old.entries pass.old o (Clear dom)) }
     ensures err { OnErr result (pass.new ≡ pass.old) }
+    ensures stays { OnErr result (board.new.entries ≡ board.old.entries) }
 {
     board.reserve()?;
     let set = board.look(dom);
