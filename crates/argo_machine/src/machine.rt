@@ -8,6 +8,7 @@ ghost use Rattle.argo_model.specs.Runs.Closed.{closed_domains, heard_all};
 ghost use Rattle.argo_machine.specs.Machine.{OneStep};
 
 use crate::books::Books;
+use crate::copies::copy_of_scripts;
 use crate::replies::heard_of_all;
 use crate::vcpus::{lines_of, vcpus_of};
 use argo_base::NoMemory;
@@ -45,12 +46,26 @@ impl<W: SerialWorld> Machine<W> {
         ensures schedule { IfOk result (λ m. m.schedule ≡ []) }
         ensures left { IfOk result (λ m. m.left < 2 ^ 32) }
     {
-        let vcpus = vcpus_of(alloc, scripts.parts.as_slice())?;
+        Machine::taking(alloc, copy_of_scripts(alloc, scripts)?)
+    }
+
+    /// As `new`, of a script that is given away: none of its lines is copied.
+    pub fn taking(alloc: Global, scripts: Scripts) -> Result<Machine<W>, NoMemory>
+        ensures script { IfOk result (λ m. m.script ≡ scripts) }
+        ensures schedule { IfOk result (λ m. m.schedule ≡ []) }
+        ensures left { IfOk result (λ m. m.left < 2 ^ 32) }
+    {
         let books = Books::with_room(alloc, lines_of(scripts.parts.as_slice()))?;
-        let domains = DomainLines::copy_of(alloc, scripts.domains.as_slice())?;
-        let world = W::start(alloc, scripts)?;
+        let room = Vec::with_capacity(alloc, scripts.parts.len())?;
+        let world = W::start(alloc, &scripts)?;
+        let Scripts {
+            version,
+            domains,
+            parts,
+        } = scripts;
+        let vcpus = vcpus_of(alloc, room, parts);
         Ok(Machine {
-            version: scripts.version,
+            version,
             domains,
             kept: Kept {
                 vcpus,

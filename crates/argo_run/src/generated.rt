@@ -8,7 +8,7 @@ use crate::Status;
 use argo_outside::Sink;
 use gen_script::gen_scripts;
 use report_text::{WriteFault, write_summary};
-use serial_run::run_scripts;
+use serial_run::run_taking;
 use std::alloc::Global;
 
 /// Makes the scripts of a number, runs them by the picks of the same number, and writes the summary of the run.
@@ -30,7 +30,7 @@ pub fn run_gen<K: Sink>(alloc: Global, n: u64, out: &mut K) -> Status
     let Ok(scripts) = gen_scripts(alloc, n) else {
         return Status::NoMemory;
     };
-    let Ok(shown) = run_scripts(alloc, n, &scripts) else {
+    let Ok(shown) = run_taking(alloc, n, scripts) else {
         return Status::NoMemory;
     };
     match write_summary(alloc, out, &shown) {

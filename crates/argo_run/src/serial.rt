@@ -15,7 +15,7 @@ use argo_model::Final;
 use argo_outside::{Sink, Source, TakeFault, read_up_to, write_whole};
 use report_text::{WriteFault, write_report};
 use script_text::{ReadFault, ScriptFault, read_scripts};
-use serial_run::run_scripts;
+use serial_run::run_taking;
 use std::alloc::{AllocError, Global};
 
 /// One byte more than a script may have.
@@ -74,7 +74,7 @@ fn serve<K: Sink>(alloc: Global, seed: u64, text: &[u8], out: &mut K) -> Status
         (Rose (K.faults out.old) (K.faults out.new)) result }
 {
     match read_scripts(alloc, text) {
-        Ok(scripts) => match run_scripts(alloc, seed, &scripts) {
+        Ok(scripts) => match run_taking(alloc, seed, scripts) {
             Ok(shown) => report(alloc, out, &shown),
             Err(_) => Status::NoMemory,
         },
