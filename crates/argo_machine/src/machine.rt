@@ -106,6 +106,13 @@ impl<W: SerialWorld> Machine<W> {
         self.kept.advance(v)
     }
 
+    /// As `step`, of whose outcome nothing is wanted.
+    pub fn go(&mut self, v: u32) -> Result<(), NoMemory>
+        requires { IsTrue (is_open (run self.old.script self.old.schedule) v) }
+    {
+        self.kept.go(v)
+    }
+
     /// The domains as they stand, and for each section its replies so far with their steps. All is copied, the domains' memory
     /// too.
     pub fn closed(&self) -> Result<(ClosedDomains, Heard), NoMemory>
@@ -172,6 +179,19 @@ impl<W: SerialWorld> Model for Kept<W> {
 
 impl<W: SerialWorld> Kept<W> {
     ghost use Rattle.argo_machine.specs.Kept.{IsOpenIn, AdvancesBy, StaysKept};
+
+    // One step of a section, of whose outcome nothing is wanted.
+    fn go(&mut self, v: u32) -> Result<(), NoMemory>
+        requires { IsOpenIn self.old v }
+    {
+        self.books.reserve()?;
+        let vcpu = &mut self.vcpus[v as usize];
+        let line = vcpu.done_lines() + 1;
+        let reply = vcpu.go(v, &mut self.world)?;
+        let step = self.world.steps(v);
+        self.books.note(v, step, line, reply);
+        Ok(())
+    }
 
     // One step of a section.
     fn advance(&mut self, v: u32) -> Result<Outcome, NoMemory>

@@ -7,8 +7,8 @@ ghost use Rattle.argo_model.specs.Rules.Access.{is_fit_at, has_steps_left, ActsI
 ghost use Rattle.argo_model.specs.Rules.Outcomes.{can_have};
 ghost use Rattle.argo_model.specs.Rules.State.{State};
 
-use crate::{Action, Outcome};
-use argo_base::NoMemory;
+use crate::{Action, Address, Load, Outcome, Unseen};
+use argo_base::{NoMemory, Piece};
 
 /// A world in which the sections of a script perform their actions. Contracts see who its sections are, which never changes, and
 /// the totals of each; and its state, where it tells that. Then each outcome and each new state are exactly the rules'.
@@ -30,4 +30,16 @@ pub trait Access {
         ensures actors_stay { actors self.new ≡ actors self.old }
         ensures err_told { OnErr result (told self.new ≡ told self.old) }
         ensures err_totals { OnErr result (totals self.new ≡ totals self.old) };
+
+    /// The bytes of a fetch of section `v`, where they stand. Its step is not counted yet: `count` does that.
+    fn seen(&self, v: u32, piece: Piece) -> Result<&[u8], Unseen>;
+
+    /// Counts a step of section `v` that was seen.
+    fn count(&mut self, v: u32);
+
+    /// Performs a put of section `v`. Where memory runs out, all is as before.
+    fn put(&mut self, v: u32, page: u64, off: u32, bytes: &[u8]) -> Result<Outcome, NoMemory>;
+
+    /// Delivers a load of section `v`, which is taken. Where memory runs out, all is as before, the load too.
+    fn deliver(&mut self, v: u32, at: Address, load: &mut Load) -> Result<Outcome, NoMemory>;
 }

@@ -110,12 +110,12 @@ impl<L: LiveDomain> Domains<L> {
         generation: u32,
         to: DomId,
         to_port: u32,
-        sent: Offer,
+        sent: &mut Offer,
     ) -> Result<Outcome, NoMemory>
-        requires { IsTrue (is_fit_load sent.load) }
+        requires { IsTrue (is_fit_load sent.old.load) }
         ensures ok { IfOk result
-            (λ o. act (Vcpu sent.sender generation)
-            (Deliver sent.port to to_port sent.kind sent.load) self.old
+            (λ o. act (Vcpu sent.old.sender generation)
+            (Deliver sent.old.port to to_port sent.old.kind sent.old.load) self.old
             ≡ record { outcome = o; state = self.new }) }
         ensures err { OnErr result (self.new ≡ self.old) }
     {

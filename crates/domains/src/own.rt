@@ -12,8 +12,8 @@ ghost use Rattle.domains.specs.World.{registered, swept};
 ghost use Rattle.section_world.specs.Young.{IsYoung};
 
 use crate::domains::Domains;
-use argo_base::{DomId, Errno, NoMemory};
-use argo_model::{Action, Outcome};
+use argo_base::{DomId, Errno, NoMemory, Piece};
+use argo_model::{Action, Outcome, Unseen};
 use live_domain::{Change, LiveDomain, Registration};
 use std::alloc::Global;
 
@@ -38,6 +38,29 @@ impl<L: LiveDomain> Domains<L> {
         };
         let outcome = domain.act(alloc, generation, action)?;
         Ok(outcome)
+    }
+
+    /// The bytes of a piece of a caller.
+    pub fn seen(&self, dom: DomId, generation: u32, piece: Piece) -> Result<&[u8], Unseen> {
+        match self.domains.get(&dom) {
+            Some(domain) => domain.seen(generation, piece),
+            None => Err(Unseen::Gone),
+        }
+    }
+
+    /// A caller puts bytes into a page. Where memory runs out all stay.
+    pub fn put(
+        &mut self,
+        caller: (DomId, u32),
+        page: u64,
+        off: u32,
+        bytes: &[u8],
+    ) -> Result<Outcome, NoMemory> {
+        let (dom, generation) = caller;
+        let Some(domain) = self.domains.get_mut(&dom) else {
+            return Ok(Outcome::Gone);
+        };
+        domain.put(generation, page, off, bytes)
     }
 
     /// A caller sweeps its next ring. Where memory runs out all stay.

@@ -9,6 +9,8 @@ use crate::fetched::bytes_of;
 use crate::stage::{BodyRead, Onward, Stage};
 use argo_base::{Bytes, DomId, Message, NoMemory};
 use argo_model::{Action, Outcome};
+use std::alloc::Global;
+use std::mem;
 
 impl BodyRead {
     ghost use Rattle.guest_lib.specs.Stage.{IsBody, HasBodySize, IsStage, Follows, GoAlike, IsAction, CanHearPiece, read_body, step_of};
@@ -33,6 +35,27 @@ impl BodyRead {
             off: piece.off,
             n: piece.n,
         })
+    }
+
+    /// Takes the bytes of the next piece: whether others are to come.
+    pub(crate) fn hear(&mut self, bytes: &[u8]) -> bool {
+        self.got.extend_from_slice(bytes).unwrap();
+        self.slots.drop_first();
+        self.slots.first().is_some()
+    }
+
+    /// The put of the rx word, with the message.
+    pub(crate) fn word_stage(&mut self, alloc: Global) -> Stage {
+        let got = mem::replace(&mut self.got, Vec::new(alloc));
+        Stage::Word {
+            word: self.word,
+            message: Message {
+                src: DomId(self.head.source.domain_id),
+                port: self.head.source.aport,
+                kind: self.head.message_type,
+                body: Bytes::from_vec(got),
+            },
+        }
     }
 
     /// Where the library goes with the outcome of that fetch.

@@ -5,7 +5,7 @@ ghost use Rattle.guest_lib.specs.Ends.{EndsFetch};
 ghost use Rattle.guest_lib.specs.Receiving.{IsShort};
 
 use crate::received::Received;
-use argo_model::Outcome;
+use argo_model::{Outcome, Unseen};
 
 /// The bytes of a fetch, or what the library then came to.
 pub(crate) fn bytes_of(outcome: &Outcome) -> Result<&[u8], Received>
@@ -17,5 +17,13 @@ pub(crate) fn bytes_of(outcome: &Outcome) -> Result<&[u8], Received>
         Outcome::Bytes(bytes) => Ok(bytes.as_slice()),
         Outcome::Gone => Err(Received::Gone),
         _ => Err(Received::Fault),
+    }
+}
+
+/// What the library came to where a fetch showed no bytes.
+pub(crate) fn unseen_by(unseen: Unseen) -> Received {
+    match unseen {
+        Unseen::Gone => Received::Gone,
+        Unseen::Fault => Received::Fault,
     }
 }

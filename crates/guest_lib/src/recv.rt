@@ -5,11 +5,12 @@ ghost use Rattle.argo_base.specs.Slots.{is_legal};
 ghost use Rattle.argo_model.specs.Rules.Fit.{is_fit};
 ghost use Rattle.guest_lib.specs.Receiving.{Starts, IsUnderWay, IsShort, IsNext, FeedsAll, CanFeed, GoesOn, left_of};
 
+use crate::fetched::unseen_by;
 use crate::own_ring::OwnRing;
 use crate::received::Received;
 use crate::stage::{Onward, Stage};
 use argo_base::NoMemory;
-use argo_model::{Action, Outcome};
+use argo_model::{Action, Outcome, Unseen};
 use std::alloc::Global;
 use std::marker::Model;
 use std::mem;
@@ -79,6 +80,18 @@ impl Recv {
         ensures over { IsSome result ↔ (left_of self.new ≡ 0) }
     {
         self.feed_by(&outcome)
+    }
+
+    /// As `feed`, of the bytes that a fetch showed.
+    pub fn hear(&mut self, seen: Result<&[u8], Unseen>) -> Option<Received> {
+        self.ready = false;
+        match seen {
+            Ok(bytes) => self.stage.hear(self.alloc, self.ring, bytes),
+            Err(unseen) => {
+                self.stage = Stage::Done;
+                Some(unseen_by(unseen))
+            }
+        }
     }
 
     /// As `feed`, of an outcome that the caller keeps.

@@ -62,6 +62,36 @@ impl OwnRing {
         Onward::To(Stage::Head { rx, tx })
     }
 
+    /// Where it goes with the two words.
+    pub(crate) fn words(self, rx: u32, tx: u32) -> Onward {
+        if !is_place(self.len, rx) || !is_place(self.len, tx) {
+            return Onward::Ended(Received::Bad);
+        }
+        if rx == tx {
+            return Onward::Ended(Received::Empty);
+        }
+        Onward::To(Stage::Head { rx, tx })
+    }
+
+    /// Where it goes with the header at rx.
+    pub(crate) fn head(self, alloc: Global, rx: u32, tx: u32, bytes: &[u8]) -> Onward {
+        let Some(bytes) = bytes.first_chunk() else {
+            unreachable!();
+        };
+        let head = get_message_head(bytes);
+        if !self.is_message_head(rx, tx, head.len) {
+            return Onward::Ended(Received::Bad);
+        }
+        let at = place_after(self.len, rx, 16);
+        let body = BodyRead {
+            slots: Slots::over(self.page, self.len, at, head.len - 16),
+            got: Vec::new(alloc),
+            head,
+            word: place_after(self.len, rx, up(head.len)),
+        };
+        Onward::To(body.stage())
+    }
+
     /// Where it goes with that of the fetch of the header at rx.
     pub(crate) fn head_fed(self, alloc: Global, rx: u32, tx: u32, outcome: &Outcome) -> Onward
         requires ring { IsTrue (is_legal self.len) }
@@ -103,7 +133,7 @@ impl OwnRing {
 }
 
 // The word that was fetched.
-fn word_in(bytes: &[u8]) -> u32
+pub(crate) fn word_in(bytes: &[u8]) -> u32
     requires { length bytes.now ≡ 4 }
     ensures { result ≡ u32_at bytes.now 0 }
 {

@@ -8,6 +8,7 @@ ghost use Rattle.guest_lib.specs.Receiving.{step_left, IsShort};
 
 use crate::own_ring::OwnRing;
 use crate::received::Received;
+use crate::ring::word_in;
 use crate::stage::{Onward, Stage};
 use argo_base::{Bytes, Message, NoMemory};
 use argo_model::{Action, Outcome};
@@ -38,6 +39,32 @@ impl Stage {
                 bytes: Bytes::copy_of(alloc, &word.to_le_bytes())?,
             }),
             Stage::Done => unreachable!(),
+        }
+    }
+
+    /// Goes on with the bytes of a fetch, or answers what the recv came to.
+    pub(crate) fn hear(&mut self, alloc: Global, ring: OwnRing, bytes: &[u8]) -> Option<Received> {
+        let onward = match self {
+            Stage::Rx => Onward::To(Stage::Tx { rx: word_in(bytes) }),
+            Stage::Tx { rx } => ring.words(*rx, word_in(bytes)),
+            Stage::Head { rx, tx } => ring.head(alloc, *rx, *tx, bytes),
+            Stage::Body(body) => {
+                if body.hear(bytes) {
+                    return None;
+                }
+                Onward::To(body.word_stage(alloc))
+            }
+            _ => unreachable!(),
+        };
+        match onward {
+            Onward::To(stage) => {
+                *self = stage;
+                None
+            }
+            Onward::Ended(received) => {
+                *self = Stage::Done;
+                Some(received)
+            }
         }
     }
 

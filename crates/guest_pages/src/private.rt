@@ -68,6 +68,14 @@ impl Private {
         Ok(Some(page.copy(&self.zeros, off, n)?))
     }
 
+    /// The bytes of a page, or none where the page is absent or lent.
+    pub fn page(&self, page: u64) -> Option<&[u8]> {
+        let Some(Some(page)) = self.slots.get(page as usize) else {
+            return None;
+        };
+        Some(page.bytes(&self.zeros))
+    }
+
     /// Writes into a page from an offset on; false where the page is absent or lent. The first write into a page takes
     /// the page's memory.
     pub fn write(&mut self, page: u64, off: u32, bytes: &[u8]) -> Result<bool, NoMemory>

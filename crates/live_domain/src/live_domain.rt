@@ -15,7 +15,7 @@ ghost use Rattle.argo_model.specs.Runs.Final.{final_ring};
 ghost use Rattle.live_domain.specs.Own.{own_change};
 
 use crate::{Change, Offer, Registration};
-use argo_base::{Bytes, DomId, NoMemory};
+use argo_base::{Bytes, DomId, NoMemory, Piece};
 use argo_model::{Action, ClosedRings, FinalRings, Outcome};
 use std::alloc::Global;
 
@@ -36,6 +36,12 @@ pub trait LiveDomain: Sized + Drop {
             (live self.new ≡ effects.after (live self.old) (own_change on (live self.old) action)) }
         ensures err { OnErr result (live self.new ≡ live self.old) };
 
+    /// The bytes of a piece, where its page is there.
+    fn seen(&self, piece: Piece) -> Option<&[u8]>;
+
+    /// Puts bytes at an offset of a page.
+    fn put(&mut self, page: u64, off: u32, bytes: &[u8]) -> Result<Outcome, NoMemory>;
+
     /// Registers a ring.
     fn register(&mut self, alloc: Global, r: Registration) -> Result<Change, NoMemory>
         requires legal { IsTrue (is_legal r.len) }
@@ -50,12 +56,12 @@ pub trait LiveDomain: Sized + Drop {
         ensures err { OnErr result (live self.new ≡ live self.old) };
 
     /// Takes an offer to the ring that the sender meets at a port of this domain.
-    fn offer(&mut self, to: DomId, to_port: u32, sent: Offer) -> Result<Outcome, NoMemory>
-        requires { IsTrue (is_fit_load sent.load) }
+    fn offer(&mut self, to: DomId, to_port: u32, sent: &mut Offer) -> Result<Outcome, NoMemory>
+        requires { IsTrue (is_fit_load sent.old.load) }
         ensures outcome { IfOk result
-            (λ o. o ≡ (offer_to_live to to_port sent (live self.old)).outcome) }
+            (λ o. o ≡ (offer_to_live to to_port sent.old (live self.old)).outcome) }
         ensures left { OnOk result (live self.new
-            ≡ effects.after (live self.old) (offer_to_live to to_port sent (live self.old))) }
+            ≡ effects.after (live self.old) (offer_to_live to to_port sent.old (live self.old))) }
         ensures err { OnErr result (live self.new ≡ live self.old) };
 
     /// Answers a sender that asks for room at a port.

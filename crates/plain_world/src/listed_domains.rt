@@ -2,8 +2,8 @@
 ghost use Rattle.argo_model.specs.Rules.State.{State as AnyState};
 
 use crate::mends::{keep_if, take_off};
-use argo_base::{DomId, Errno, NoMemory, RingKey};
-use argo_model::{Action, ClosedDomains, DomainLine, FinalDomains, Outcome};
+use argo_base::{DomId, Errno, NoMemory, Piece, RingKey};
+use argo_model::{Action, ClosedDomains, DomainLine, FinalDomains, Outcome, Unseen};
 use domain_lists::DomainLists;
 use domains::{Domains, id_of};
 use live_domain::{KeyedRings, Offer, Registration};
@@ -56,6 +56,20 @@ impl<L: KeyedRings> DomainActs for ListedDomains<L> {
     ) -> Result<Outcome, NoMemory> {
         let outcome = self.domains.own_act(alloc, dom, generation, action)?;
         Ok(outcome)
+    }
+
+    fn seen(&self, dom: DomId, generation: u32, piece: Piece) -> Result<&[u8], Unseen> {
+        self.domains.seen(dom, generation, piece)
+    }
+
+    fn put(
+        &mut self,
+        caller: (DomId, u32),
+        page: u64,
+        off: u32,
+        bytes: &[u8],
+    ) -> Result<Outcome, NoMemory> {
+        self.domains.put(caller, page, off, bytes)
     }
 
     fn register(
@@ -115,7 +129,7 @@ impl<L: KeyedRings> DomainActs for ListedDomains<L> {
         generation: u32,
         to: DomId,
         to_port: u32,
-        sent: Offer,
+        sent: &mut Offer,
     ) -> Result<Outcome, NoMemory> {
         let dom = sent.sender;
         let id = self.domains.met(to, to_port, dom);

@@ -11,8 +11,8 @@ ghost use Rattle.argo_model.specs.Runs.Final.{final_domain};
 ghost use Rattle.section_world.specs.Acts.{caller_on, keeps_rings, registers};
 ghost use Rattle.section_world.specs.Young.{are_shown, IsYoung};
 
-use argo_base::{DomId, NoMemory, RingKey};
-use argo_model::{Action, ClosedDomains, DomainLine, FinalDomains, Outcome};
+use argo_base::{DomId, NoMemory, Piece, RingKey};
+use argo_model::{Action, ClosedDomains, DomainLine, FinalDomains, Outcome, Unseen};
 use live_domain::{Offer, Registration};
 use std::alloc::Global;
 
@@ -42,6 +42,18 @@ pub trait DomainActs: Sized + Drop {
         ensures ok { IfOk result (λ o. act (Vcpu dom generation) action (state self.old)
             ≡ record { outcome = o; state = state self.new }) }
         ensures err { OnErr result (state self.new ≡ state self.old) };
+
+    /// The bytes of a piece of a caller.
+    fn seen(&self, dom: DomId, generation: u32, piece: Piece) -> Result<&[u8], Unseen>;
+
+    /// A caller puts bytes into a page.
+    fn put(
+        &mut self,
+        caller: (DomId, u32),
+        page: u64,
+        off: u32,
+        bytes: &[u8],
+    ) -> Result<Outcome, NoMemory>;
 
     /// A caller registers a ring.
     fn register(
@@ -89,11 +101,11 @@ pub trait DomainActs: Sized + Drop {
         generation: u32,
         to: DomId,
         to_port: u32,
-        sent: Offer,
+        sent: &mut Offer,
     ) -> Result<Outcome, NoMemory>
-        requires { IsTrue (is_fit (Deliver sent.port to to_port sent.kind sent.load)) }
-        ensures ok { IfOk result (λ o. act (Vcpu sent.sender generation)
-            (Deliver sent.port to to_port sent.kind sent.load) (state self.old)
+        requires { IsTrue (is_fit (Deliver sent.old.port to to_port sent.old.kind sent.old.load)) }
+        ensures ok { IfOk result (λ o. act (Vcpu sent.old.sender generation)
+            (Deliver sent.old.port to to_port sent.old.kind sent.old.load) (state self.old)
             ≡ record { outcome = o; state = state self.new }) }
         ensures err { OnErr result (state self.new ≡ state self.old) };
 

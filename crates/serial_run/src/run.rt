@@ -29,7 +29,7 @@ pub fn run_taking(alloc: Global, seed: u64, scripts: Scripts) -> Result<Final, N
     list_open(&machine, count as u32, &mut vcpus);
     'steps: while !vcpus.is_empty() {
         let v = vcpus[picks.next_place(vcpus.len())];
-        machine.step(v)?;
+        machine.go(v)?;
         if machine.finished(v) {
             list_open(&machine, count as u32, &mut vcpus);
         }

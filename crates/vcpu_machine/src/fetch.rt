@@ -12,7 +12,7 @@ ghost use Rattle.vcpu_machine.specs.Followed.{Fetches};
 use crate::cursor::Cursor;
 use crate::phase::{Followed, Reader};
 use crate::ranges::{Moved, fetch_moved};
-use argo_model::{Action, Outcome, Reply};
+use argo_model::{Action, Outcome, Reply, Unseen};
 use std::alloc::Global;
 use std::mem;
 
@@ -56,5 +56,33 @@ pub(crate) fn fetched(
             Some(reader.failed())
         }
         Moved::Ended => Some(Followed::Over(Reply::Gone)),
+    }
+}
+
+/// Where a line goes that fetches, with the bytes of the first piece; nowhere while others are to come.
+pub(crate) fn read_on(
+    alloc: Global,
+    rest: &mut Cursor,
+    got: &mut Vec<u8>,
+    reader: &mut Reader,
+    seen: Result<&[u8], Unseen>,
+) -> Option<Followed> {
+    match seen {
+        Ok(bytes) => {
+            got.extend_from_slice(bytes).unwrap();
+            let (_, later) = rest.split_first();
+            *rest = later;
+            if later.left != 0 {
+                return None;
+            }
+            let reader = mem::replace(reader, Reader::Show);
+            let got = mem::replace(got, Vec::new(alloc));
+            Some(reader.used(alloc, got))
+        }
+        Err(Unseen::Fault) => {
+            let reader = mem::replace(reader, Reader::Show);
+            Some(reader.failed())
+        }
+        Err(Unseen::Gone) => Some(Followed::Over(Reply::Gone)),
     }
 }

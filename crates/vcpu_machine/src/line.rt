@@ -6,13 +6,13 @@ ghost use Rattle.argo_model.specs.Programs.Program.{Do};
 
 use crate::call::{Call, caller_of};
 use crate::cursor::Cursor;
-use crate::fetch::{fetch_first, fetched};
+use crate::fetch::{fetch_first, fetched, read_on};
 use crate::looking::looked;
 use crate::phase::{Followed, Phase, Question, Reader, Text};
 use crate::reading::reading;
-use crate::receiving::received;
+use crate::receiving::{receive, received};
 use argo_base::NoMemory;
-use argo_model::{Action, Actor, Line, Outcome, Reply};
+use argo_model::{Access, Action, Actor, Line, Outcome, Reply};
 use guest_lib::Recv;
 use std::alloc::Global;
 
@@ -72,6 +72,33 @@ impl Phase {
             Phase::Asking(question) => question.action(alloc),
             Phase::Looking { .. } => Ok(Action::Look),
             Phase::Receiving(recv) => recv.next(),
+            Phase::Ended => unreachable!(),
+        }
+    }
+
+    /// Performs the next action in a world: where the line then goes; nowhere while it stays at the phase.
+    pub(crate) fn go<A: Access>(
+        &mut self,
+        alloc: Global,
+        line: &Line,
+        v: u32,
+        a: &mut A,
+    ) -> Result<Option<Followed>, NoMemory> {
+        match self {
+            Phase::Reading { rest, got, reader } => {
+                got.reserve(reader.room(rest.left))?;
+                let (piece, _) = rest.split_first();
+                let followed = read_on(alloc, rest, got, reader, a.seen(v, piece));
+                a.count(v);
+                Ok(followed)
+            }
+            Phase::Writing { rest, text } => text.go(alloc, line, rest, v, a),
+            Phase::Asking(question) => Ok(Some(question.go(alloc, v, a)?)),
+            Phase::Looking { later } => {
+                let outcome = a.act(v, Action::Look)?;
+                Ok(looked(later, &outcome))
+            }
+            Phase::Receiving(recv) => receive(recv, v, a),
             Phase::Ended => unreachable!(),
         }
     }

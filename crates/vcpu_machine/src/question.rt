@@ -12,8 +12,9 @@ use crate::layout::read_numbers;
 use crate::notify;
 use crate::phase::{Followed, Phase, Question};
 use crate::reading::refusal;
+use crate::send::delivery;
 use argo_base::{Bytes, NoMemory, slots};
-use argo_model::{Action, Load, Outcome, Reply};
+use argo_model::{Access, Action, Load, Outcome, Reply};
 use std::alloc::Global;
 
 impl Question {
@@ -43,7 +44,7 @@ impl Question {
             }
             Question::Deliver { address, load } => {
                 let load = copy_of(alloc, load)?;
-                Ok(address.deliver(load))
+                Ok(delivery(address, load))
             }
             Question::Sweep { after, .. } => Ok(Action::Sweep { after: *after }),
             Question::Query {
@@ -68,6 +69,25 @@ impl Question {
             Outcome::Gone => Followed::Over(Reply::Gone),
             _ => self.answered(alloc, outcome),
         }
+    }
+
+    /// Asks in a world: where the line then goes.
+    pub(crate) fn go<A: Access>(
+        &mut self,
+        alloc: Global,
+        v: u32,
+        a: &mut A,
+    ) -> Result<Followed, NoMemory> {
+        if let Question::Deliver { address, load } = self {
+            let outcome = a.deliver(v, *address, load)?;
+            return Ok(match outcome {
+                Outcome::Gone => Followed::Over(Reply::Gone),
+                _ => delivered(&outcome),
+            });
+        }
+        let action = self.action(alloc)?;
+        let outcome = a.act(v, action)?;
+        Ok(self.asked(alloc, &outcome))
     }
 
     // Where the line goes with an outcome other than `Gone`.

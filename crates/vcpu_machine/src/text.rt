@@ -8,12 +8,12 @@ ghost use Rattle.vcpu_machine.specs.Ranges.{PutsFirst};
 ghost use Rattle.vcpu_machine.specs.Text.{stored_by};
 
 use crate::cursor::Cursor;
-use crate::layout::answer_text;
+use crate::layout::{answer_bytes, answer_text};
 use crate::phase::{Followed, Phase, Text};
 use crate::ranges::{Moved, put_moved};
 use crate::reading::refusal;
 use argo_base::{Bytes, Errno, NoMemory};
-use argo_model::{Action, Line, Outcome, Reply};
+use argo_model::{Access, Action, Line, Outcome, Reply};
 use std::alloc::Global;
 
 impl Text {
@@ -39,6 +39,22 @@ impl Text {
                 put_last(alloc, rest, bytes.as_slice())
             }
         }
+    }
+
+    /// Puts the first piece of what is left of a range in a world: where the line then goes; nowhere while others are to come.
+    pub(crate) fn go<A: Access>(
+        &self,
+        alloc: Global,
+        line: &Line,
+        rest: &mut Cursor,
+        v: u32,
+        a: &mut A,
+    ) -> Result<Option<Followed>, NoMemory> {
+        let outcome = match self {
+            Text::Stored => put_part(*rest, stored(line), v, a)?,
+            Text::Answer { answer, .. } => put_part(*rest, &answer_bytes(*answer), v, a)?,
+        };
+        Ok(self.moved(alloc, line, rest, &outcome))
     }
 
     /// Where a line goes that puts, with an outcome of the first piece; nowhere while others are to come.
@@ -108,4 +124,12 @@ fn put_last(alloc: Global, rest: Cursor, bytes: &[u8]) -> Result<Action, NoMemor
         off: piece.off,
         bytes: Bytes::copy_of(alloc, part)?,
     })
+}
+
+// Puts the first piece of what is left of a range, which takes the last of the bytes.
+fn put_part<A: Access>(rest: Cursor, bytes: &[u8], v: u32, a: &mut A) -> Result<Outcome, NoMemory> {
+    let (piece, _) = rest.split_first();
+    let (_, left) = bytes.split_at(bytes.len() - rest.left as usize);
+    let (part, _) = left.split_at(piece.n as usize);
+    a.put(v, piece.page, piece.off, part)
 }
