@@ -109,6 +109,8 @@ impl<W: SerialWorld> Machine<W> {
     /// As `step`, of whose outcome nothing is wanted.
     pub fn go(&mut self, v: u32) -> Result<(), NoMemory>
         requires { IsTrue (is_open (run self.old.script self.old.schedule) v) }
+        ensures ok { OnOk result ((o : Outcome) × OneStep self.old v o self.new) }
+        ensures err { OnErr result (self.new ≡ self.old) }
     {
         self.kept.go(v)
     }
@@ -183,6 +185,8 @@ impl<W: SerialWorld> Kept<W> {
     // One step of a section, of whose outcome nothing is wanted.
     fn go(&mut self, v: u32) -> Result<(), NoMemory>
         requires { IsOpenIn self.old v }
+        ensures ok { OnOk result ((o : Outcome) × AdvancesBy self.old v o self.new) }
+        ensures err { OnErr result (StaysKept self.old self.new) }
     {
         self.books.reserve()?;
         let vcpu = &mut self.vcpus[v as usize];

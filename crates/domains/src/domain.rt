@@ -1,6 +1,10 @@
 //! A domain of the world.
-ghost use Rattle.std.specs.Prelude.{◌≡◌, ◌<◌, ◌^◌, Some, IsTrue, IfOk, IfSome, OnOk, OnErr, length};
+ghost use Rattle.std.specs.Prelude.{◌≡◌, ◌+◌, ◌<◌, ◌≤◌, ◌^◌, Some, IsTrue, IfOk, IfErr, IfSome, OnOk, OnErr, length};
 ghost use Rattle.argo_base.specs.Slots.{is_legal, page_count};
+ghost use Rattle.argo_model.specs.declared.action.Action.TheVariants.{Put};
+ghost use Rattle.argo_model.specs.declared.action.Outcome.TheVariants.{Bytes};
+ghost use Rattle.argo_model.specs.Rules.Access.{fetch_of, outcome_unseen};
+ghost use Rattle.argo_model.specs.Rules.Effects.{answered};
 ghost use Rattle.argo_model.specs.Rules.Deliver.{offer_to_domain};
 ghost use Rattle.argo_model.specs.Rules.Destroy.{gone_domain, live_without, reset_live, next_domain};
 ghost use Rattle.argo_model.specs.Rules.Fit.{is_fit, is_fit_load};
@@ -65,7 +69,13 @@ impl<L: LiveDomain> Domain<L> {
     }
 
     /// The bytes of a piece, where the domain lives in this generation.
-    pub(crate) fn seen(&self, generation: u32, piece: Piece) -> Result<&[u8], Unseen> {
+    pub(crate) fn seen(&self, generation: u32, piece: Piece) -> Result<&[u8], Unseen>
+        requires { piece.off + piece.n ≤ 4096 }
+        ensures bytes { IfOk result (λ bytes.
+            own_in generation self.now (fetch_of piece) ≡ answered (Bytes bytes.now)) }
+        ensures unseen { IfErr result (λ u.
+            own_in generation self.now (fetch_of piece) ≡ answered (outcome_unseen u)) }
+    {
         if self.generation != generation as u64 {
             return Err(Unseen::Gone);
         }
@@ -85,7 +95,14 @@ impl<L: LiveDomain> Domain<L> {
         page: u64,
         off: u32,
         bytes: &[u8],
-    ) -> Result<Outcome, NoMemory> {
+    ) -> Result<Outcome, NoMemory>
+        requires { off + length bytes.now ≤ 4096 }
+        ensures outcome { IfOk result
+            (λ o. o ≡ (own_in generation self.old (Put page off bytes.now)).outcome) }
+        ensures left { OnOk result (self.new
+            ≡ with_left self.old (own_in generation self.old (Put page off bytes.now)).left) }
+        ensures err { OnErr result (self.new ≡ self.old) }
+    {
         if self.generation != generation as u64 {
             return Ok(Outcome::Gone);
         }
@@ -157,6 +174,7 @@ impl<L: LiveDomain> Domain<L> {
             (self.new
             ≡ with_left self.old (offer_to_domain to to_port sent.old (Some self.old)).left) }
         ensures err { OnErr result (self.new ≡ self.old) }
+        ensures err_sent { OnErr result (sent.new ≡ sent.old) }
     {
         if !self.on {
             return Ok(Outcome::Refused(Errno::ConnRefused));

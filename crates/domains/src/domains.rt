@@ -118,6 +118,7 @@ impl<L: LiveDomain> Domains<L> {
             (Deliver sent.old.port to to_port sent.old.kind sent.old.load) self.old
             ≡ record { outcome = o; state = self.new }) }
         ensures err { OnErr result (self.new ≡ self.old) }
+        ensures err_sent { OnErr result (sent.new ≡ sent.old) }
     {
         let Some(on) = self.caller(sent.sender, generation) else {
             return Ok(Outcome::Gone);

@@ -1,6 +1,6 @@
 //! The body of a message, fetched piece by piece.
 
-ghost use Rattle.std.specs.Prelude.{◌≡◌, ◌+◌, ◌<◌, ◌≤◌, ℕ, Bool, length, true, false, IsTrue, IfOk, OnOk};
+ghost use Rattle.std.specs.Prelude.{◌≡◌, ◌+◌, ◌<◌, ◌≤◌, ℕ, Bool, length, true, false, IsTrue, IsFalse, IfOk, OnOk};
 ghost use Rattle.guest_lib.specs.declared.own_ring.OwnRing.{OwnRing as AnyRing};
 ghost use Rattle.argo_model.specs.Rules.Fit.{is_fit};
 ghost use Rattle.guest_lib.specs.Receiving.{message_with, step_left};
@@ -13,7 +13,7 @@ use std::alloc::Global;
 use std::mem;
 
 impl BodyRead {
-    ghost use Rattle.guest_lib.specs.Stage.{IsBody, HasBodySize, IsStage, Follows, GoAlike, IsAction, CanHearPiece, read_body, step_of};
+    ghost use Rattle.guest_lib.specs.Stage.{IsBody, HasBodySize, IsStage, Follows, GoAlike, IsAction, CanHearPiece, read_body, step_of, word_stage};
 
     /// The fetch of the next piece, with the memory for all of the body.
     pub(crate) fn next(&mut self) -> Result<Action, NoMemory>
@@ -38,14 +38,23 @@ impl BodyRead {
     }
 
     /// Takes the bytes of the next piece: whether others are to come.
-    pub(crate) fn hear(&mut self, bytes: &[u8]) -> bool {
+    pub(crate) fn hear(&mut self, bytes: &[u8]) -> bool
+        requires ready { IsBody true self.old }
+        requires can { CanHearPiece self.old (Outcome.Bytes bytes.now) }
+        ensures more { IsTrue result → (ring : AnyRing) → Follows ring (read_body self.old)
+            (Outcome.Bytes bytes.now) (Onward.To (Stage.Body self.new)) }
+        ensures last { IsFalse result → (ring : AnyRing) → Follows ring (read_body self.old)
+            (Outcome.Bytes bytes.now) (Onward.To (word_stage self.new)) }
+    {
         self.got.extend_from_slice(bytes).unwrap();
         self.slots.drop_first();
         self.slots.first().is_some()
     }
 
     /// The put of the rx word, with the message.
-    pub(crate) fn word_stage(&mut self, alloc: Global) -> Stage {
+    pub(crate) fn word_stage(&mut self, alloc: Global) -> Stage
+        ensures { result ≡ word_stage self.old }
+    {
         let got = mem::replace(&mut self.got, Vec::new(alloc));
         Stage::Word {
             word: self.word,

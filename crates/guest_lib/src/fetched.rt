@@ -1,6 +1,7 @@
 //! What the outcome of a fetch comes to.
 
 ghost use Rattle.std.specs.Prelude.{◌≡◌, IfOk, IfErr};
+ghost use Rattle.argo_model.specs.Rules.Access.{outcome_unseen};
 ghost use Rattle.guest_lib.specs.Ends.{EndsFetch};
 ghost use Rattle.guest_lib.specs.Receiving.{IsShort};
 
@@ -21,7 +22,10 @@ pub(crate) fn bytes_of(outcome: &Outcome) -> Result<&[u8], Received>
 }
 
 /// What the library came to where a fetch showed no bytes.
-pub(crate) fn unseen_by(unseen: Unseen) -> Received {
+pub(crate) fn unseen_by(unseen: Unseen) -> Received
+    ensures ends { EndsFetch (outcome_unseen unseen) result }
+    ensures short { IsShort result }
+{
     match unseen {
         Unseen::Gone => Received::Gone,
         Unseen::Fault => Received::Fault,

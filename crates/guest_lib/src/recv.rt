@@ -1,7 +1,9 @@
 //! A recv, action by action.
 
-ghost use Rattle.std.specs.Prelude.{◌≡◌, ◌<◌, ◌↔◌, true, IsTrue, IsSome, IfOk, IfSome, IfNone, OnOk, OnErr};
+ghost use Rattle.std.specs.Prelude.{◌≡◌, ◌<◌, ◌↔◌, true, IsTrue, IsSome, IfOk, IfErr, IfSome, IfNone, OnOk, OnErr};
 ghost use Rattle.argo_base.specs.Slots.{is_legal};
+ghost use Rattle.argo_model.specs.declared.action.Outcome.TheVariants.{Bytes};
+ghost use Rattle.argo_model.specs.Rules.Access.{outcome_unseen};
 ghost use Rattle.argo_model.specs.Rules.Fit.{is_fit};
 ghost use Rattle.guest_lib.specs.Receiving.{Starts, IsUnderWay, IsShort, IsNext, FeedsAll, CanFeed, GoesOn, left_of};
 
@@ -83,7 +85,18 @@ impl Recv {
     }
 
     /// As `feed`, of the bytes that a fetch showed.
-    pub fn hear(&mut self, seen: Result<&[u8], Unseen>) -> Option<Received> {
+    pub fn hear(&mut self, seen: Result<&[u8], Unseen>) -> Option<Received>
+        requires ready { IsTrue self.old.ready }
+        requires can { IfOk seen (λ bytes. CanFeed self.old (Bytes bytes.now)) }
+        requires can_not { IfErr seen (λ u. CanFeed self.old (outcome_unseen u)) }
+        ensures goes_on { IfOk seen
+            (λ bytes. GoesOn self.old (Bytes bytes.now) result self.new) }
+        ensures ends { IfErr seen (λ u. GoesOn self.old (outcome_unseen u) result self.new) }
+        ensures under_way { IfNone result (IsUnderWay self.new) }
+        ensures short { IfSome result IsShort }
+        ensures nearer { left_of self.new < left_of self.old }
+        ensures over { IsSome result ↔ (left_of self.new ≡ 0) }
+    {
         self.ready = false;
         match seen {
             Ok(bytes) => self.stage.hear(self.alloc, self.ring, bytes),

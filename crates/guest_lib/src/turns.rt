@@ -8,14 +8,13 @@ ghost use Rattle.guest_lib.specs.Receiving.{step_left, IsShort};
 
 use crate::own_ring::OwnRing;
 use crate::received::Received;
-use crate::ring::word_in;
 use crate::stage::{Onward, Stage};
 use argo_base::{Bytes, Message, NoMemory};
 use argo_model::{Action, Outcome};
 use std::alloc::Global;
 
 impl Stage {
-    ghost use Rattle.guest_lib.specs.Stage.{IsStage, StaysReady, IsAction, CanHear, Follows, step_of};
+    ghost use Rattle.guest_lib.specs.Stage.{IsStage, StaysReady, IsAction, CanHear, Follows, Hears, step_of};
 
     /// The next action, with the memory that its outcome will want.
     pub(crate) fn next(&mut self, alloc: Global, ring: OwnRing) -> Result<Action, NoMemory>
@@ -43,11 +42,16 @@ impl Stage {
     }
 
     /// Goes on with the bytes of a fetch, or answers what the recv came to.
-    pub(crate) fn hear(&mut self, alloc: Global, ring: OwnRing, bytes: &[u8]) -> Option<Received> {
+    pub(crate) fn hear(&mut self, alloc: Global, ring: OwnRing, bytes: &[u8]) -> Option<Received>
+        requires ready { IsStage ring.len true self.old }
+        requires ring { IsTrue (is_legal ring.len) }
+        requires can { CanHear ring (step_of self.old) (Outcome.Bytes bytes.now) }
+        ensures { Hears ring (step_of self.old) bytes.now result self.new }
+    {
         let onward = match self {
-            Stage::Rx => Onward::To(Stage::Tx { rx: word_in(bytes) }),
-            Stage::Tx { rx } => ring.words(*rx, word_in(bytes)),
-            Stage::Head { rx, tx } => ring.head(alloc, *rx, *tx, bytes),
+            Stage::Rx => ring.rx_heard(bytes),
+            Stage::Tx { rx } => ring.tx_heard(*rx, bytes),
+            Stage::Head { rx, tx } => ring.head_heard(alloc, *rx, *tx, bytes),
             Stage::Body(body) => {
                 if body.hear(bytes) {
                     return None;

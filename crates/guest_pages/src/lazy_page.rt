@@ -89,7 +89,9 @@ impl LazyPage {
     }
 
     /// The bytes of the page.
-    pub(crate) fn bytes<'a>(&'a self, zeros: &'a ZeroPage) -> &'a [u8] {
+    pub(crate) fn bytes<'a>(&'a self, zeros: &'a ZeroPage) -> &'a [u8]
+        ensures { result.now ≡ page_of self.now }
+    {
         match &self.frame.page {
             Some(page) => page.bytes(),
             None => zeros.bytes(),

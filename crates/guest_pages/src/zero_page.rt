@@ -48,7 +48,9 @@ impl ZeroPage {
     }
 
     /// Its bytes.
-    pub(crate) fn bytes(&self) -> &[u8] {
+    pub(crate) fn bytes(&self) -> &[u8]
+        ensures { result.now ≡ zero_page }
+    {
         self.page.bytes()
     }
 

@@ -1,9 +1,8 @@
 //! What a domain has that is alive.
-ghost use Rattle.std.specs.Prelude.{◌≡◌, ◌+◌, ◌*◌, ◌≤◌, ◌<◌, IfOk, length, take, drop};
-ghost use Rattle.argo_base.specs.Limits.{page_bytes};
+ghost use Rattle.std.specs.Prelude.{◌≡◌, ◌+◌, ◌≤◌, IfOk, IfSome, IfNone, length, take, drop};
+ghost use Rattle.argo_model.specs.declared.action.Outcome.TheVariants.{Bytes, Fault};
 ghost use Rattle.argo_model.specs.Rules.Act as acts;
 ghost use Rattle.argo_model.specs.Rules.Effects as effects;
-ghost use Rattle.guest_pages.specs.Rows.{row_bytes};
 
 use crate::home::{Home, home_at};
 use argo_base::{Bytes, DomId, NoMemory, Piece};
@@ -66,7 +65,13 @@ impl Live {
     }
 
     /// The bytes of a piece, where its page is there.
-    pub(crate) fn shown(&self, piece: Piece) -> Option<&[u8]> {
+    pub(crate) fn shown(&self, piece: Piece) -> Option<&[u8]>
+        requires { piece.off + piece.n ≤ 4096 }
+        ensures some { IfSome result
+            (λ bytes. acts.fetch self.now piece.page piece.off piece.n ≡ Bytes bytes.now) }
+        ensures none { IfNone result
+            (acts.fetch self.now piece.page piece.off piece.n ≡ Fault) }
+    {
         if let Some(page) = self.private.page(piece.page) {
             return Some(part_of(page, piece));
         }
@@ -91,6 +96,7 @@ impl Live {
 // The bytes of a piece in its page.
 fn part_of(page: &[u8], piece: Piece) -> &[u8]
     requires { piece.off + piece.n ≤ length page.now }
+    ensures { result.now ≡ take piece.n (drop piece.off page.now) }
 {
     let (_, rest) = page.split_at(piece.off as usize);
     let (part, _) = rest.split_at(piece.n as usize);

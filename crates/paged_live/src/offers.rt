@@ -37,6 +37,7 @@ pub(crate) fn offer_to(ring: &mut Ring, sent: &mut Offer) -> Result<Outcome, NoM
     ensures left { OnOk result ((owner : ℕ) →
         Becomes ring.old ring.new (λ p. after p (deliver.offer p owner sent.old))) }
     ensures err { OnErr result (Becomes ring.old ring.new (λ p. p)) }
+    ensures err_sent { OnErr result (sent.new ≡ sent.old) }
     ensures still { StandsStill ring.old ring.new }
 {
     ring.row().count();

@@ -1,7 +1,8 @@
 //! The pieces of a range that is fetched.
 
-ghost use Rattle.std.specs.Prelude.{◌≡◌, ◌+◌, ◌-◌, ◌<◌, ◌≤◌, min, List, ℕ, [], length, IsTrue, vec_len, vec_capacity};
+ghost use Rattle.std.specs.Prelude.{◌≡◌, ◌+◌, ◌-◌, ◌<◌, ◌≤◌, min, List, ℕ, [], length, IsTrue, IfOk, IfErr, vec_len, vec_capacity};
 ghost use Rattle.vcpu_machine.specs.Cursor.{pieces_left, IsSound};
+ghost use Rattle.argo_model.specs.Rules.Access.{outcome_unseen};
 ghost use Rattle.argo_model.specs.Rules.Fit.{is_fit};
 ghost use Rattle.argo_model.specs.Programs.Asks.{Do, Rests};
 ghost use Rattle.vcpu_machine.specs.Ranges.{FetchesFirst, HasRoomFor, GivesFirst};
@@ -66,7 +67,15 @@ pub(crate) fn read_on(
     got: &mut Vec<u8>,
     reader: &mut Reader,
     seen: Result<&[u8], Unseen>,
-) -> Option<Followed> {
+) -> Option<Followed>
+    requires at_phase { IsReading rest.old (length got.old.items) reader.old }
+    requires room { HasRoomFor rest.old got.old }
+    requires first { IfOk seen (λ bytes. GivesFirst rest.old (Outcome.Bytes bytes.now)) }
+    ensures bytes { IfOk seen (λ bytes. Fetches rest.old got.old reader.old
+        (Outcome.Bytes bytes.now) result rest.new got.new reader.new) }
+    ensures unseen { IfErr seen (λ u. Fetches rest.old got.old reader.old
+        (outcome_unseen u) result rest.new got.new reader.new) }
+{
     match seen {
         Ok(bytes) => {
             got.extend_from_slice(bytes).unwrap();
