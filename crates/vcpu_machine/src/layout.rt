@@ -113,7 +113,9 @@ pub(crate) fn answer_text(alloc: Global, answer: Answer) -> Result<Vec<u8>, NoMe
 }
 
 /// The 12 bytes in which notify answers of one ring.
-pub(crate) fn answer_bytes(answer: Answer) -> [u8; 12] {
+pub(crate) fn answer_bytes(answer: Answer) -> [u8; 12]
+    ensures { result ≡ answer_bytes answer.flags 0 answer.need answer.most }
+{
     let flags = answer.flags.to_le_bytes();
     let need = answer.need.to_le_bytes();
     let most = answer.most.to_le_bytes();

@@ -2,6 +2,7 @@
 
 ghost use Rattle.std.specs.Prelude.{◌≡◌, ◌+◌, ◌*◌, ◌≤◌, length, take, IsTrue};
 ghost use Rattle.argo_base.specs.Iovs.{iov_at, iovs_at};
+ghost use Rattle.argo_model.specs.Rules.Access.{delivered_to};
 ghost use Rattle.argo_model.specs.Rules.Fit.{is_fit_load};
 ghost use Rattle.vcpu_machine.specs.Sending.{clear_pads, own_source, head_of_send, deliver_to, judge_iovs, IsNextBuffer};
 ghost use Rattle.vcpu_machine.specs.Followed.{Leads};
@@ -17,7 +18,9 @@ use argo_model::{Action, Address, Load};
 use std::alloc::Global;
 
 /// The act that delivers a load there.
-pub(crate) fn delivery(at: &Address, load: Load) -> Action {
+pub(crate) fn delivery(at: &Address, load: Load) -> Action
+    ensures { result ≡ delivered_to at.now load }
+{
     Action::Deliver {
         port: at.port,
         to: at.to,

@@ -1,7 +1,8 @@
 //! What is put into a range, and what follows it.
 
-ghost use Rattle.std.specs.Prelude.{◌≡◌, ◌<◌, ◌≤◌, [], length, IsTrue, IfOk};
+ghost use Rattle.std.specs.Prelude.{◌≡◌, ◌<◌, ◌≤◌, [], length, IsTrue, IfOk, OnErr};
 ghost use Rattle.vcpu_machine.specs.Cursor.{pieces_left, IsSound};
+ghost use Rattle.argo_model.specs.Rules.Access.{has_steps_left};
 ghost use Rattle.argo_model.specs.Rules.Fit.{is_fit};
 ghost use Rattle.argo_model.specs.Programs.Asks.{Say, Do, Next, Rests, put_all};
 ghost use Rattle.vcpu_machine.specs.Ranges.{PutsFirst};
@@ -20,6 +21,7 @@ impl Text {
     ghost use Rattle.vcpu_machine.specs.Text.{text_of, after_put, if_not_put, IsText, most_after_put};
     ghost use Rattle.vcpu_machine.specs.Phase.{rest_of, IsWriting};
     ghost use Rattle.vcpu_machine.specs.Followed.{Leads, PutFollows};
+    ghost use Rattle.vcpu_machine.specs.Going.{MayGo, Goes};
 
     /// The put of the first piece of what is left of a range.
     pub(crate) fn put_first(
@@ -49,7 +51,19 @@ impl Text {
         rest: &mut Cursor,
         v: u32,
         a: &mut A,
-    ) -> Result<Option<Followed>, NoMemory> {
+    ) -> Result<Option<Followed>, NoMemory>
+        requires writing { IsWriting line.now rest.old self.now }
+        requires may { MayGo (A.actors a.old) v
+            (rest_of line.now (Phase.Writing rest.old self.now) []) }
+        requires few { IsTrue (has_steps_left (A.totals a.old) v) }
+        ensures ok { IfOk result (λ followed. Goes (A.actors a.old) v line.now
+            (Phase.Writing rest.old self.now) (A.told a.old) (A.totals a.old) followed
+            (Phase.Writing rest.new self.now) (A.told a.new) (A.totals a.new)) }
+        ensures err { OnErr result (rest.new ≡ rest.old) }
+        ensures actors { A.actors a.new ≡ A.actors a.old }
+        ensures err_told { OnErr result (A.told a.new ≡ A.told a.old) }
+        ensures err_totals { OnErr result (A.totals a.new ≡ A.totals a.old) }
+    {
         let outcome = match self {
             Text::Stored => put_part(*rest, stored(line), v, a)?,
             Text::Answer { answer, .. } => put_part(*rest, &answer_bytes(*answer), v, a)?,
