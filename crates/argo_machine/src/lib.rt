@@ -5,8 +5,10 @@
 #![tactic(auto)]
 
 mod books;
+mod copies;
 mod machine;
 mod replies;
 mod vcpus;
 
+pub use copies::copy_of_scripts;
 pub use machine::Machine;

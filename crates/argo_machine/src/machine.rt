@@ -8,6 +8,7 @@ ghost use Rattle.argo_model.specs.Runs.Closed.{closed_domains, heard_all};
 ghost use Rattle.argo_machine.specs.Machine.{OneStep};
 
 use crate::books::Books;
+use crate::copies::copy_of_scripts;
 use crate::replies::heard_of_all;
 use crate::vcpus::{lines_of, vcpus_of};
 use argo_base::NoMemory;
@@ -45,12 +46,26 @@ impl<W: SerialWorld> Machine<W> {
         ensures schedule { IfOk result (λ m. m.schedule ≡ []) }
         ensures left { IfOk result (λ m. m.left < 2 ^ 32) }
     {
-        let vcpus = vcpus_of(alloc, scripts.parts.as_slice())?;
+        Machine::taking(alloc, copy_of_scripts(alloc, scripts)?)
+    }
+
+    /// As `new`, of a script that is given away: none of its lines is copied.
+    pub fn taking(alloc: Global, scripts: Scripts) -> Result<Machine<W>, NoMemory>
+        ensures script { IfOk result (λ m. m.script ≡ scripts) }
+        ensures schedule { IfOk result (λ m. m.schedule ≡ []) }
+        ensures left { IfOk result (λ m. m.left < 2 ^ 32) }
+    {
         let books = Books::with_room(alloc, lines_of(scripts.parts.as_slice()))?;
-        let domains = DomainLines::copy_of(alloc, scripts.domains.as_slice())?;
-        let world = W::start(alloc, scripts)?;
+        let room = Vec::with_capacity(alloc, scripts.parts.len())?;
+        let world = W::start(alloc, &scripts)?;
+        let Scripts {
+            version,
+            domains,
+            parts,
+        } = scripts;
+        let vcpus = vcpus_of(alloc, room, parts);
         Ok(Machine {
-            version: scripts.version,
+            version,
             domains,
             kept: Kept {
                 vcpus,
@@ -89,6 +104,15 @@ impl<W: SerialWorld> Machine<W> {
         ensures err { OnErr result (self.new ≡ self.old) }
     {
         self.kept.advance(v)
+    }
+
+    /// As `step`, of whose outcome nothing is wanted.
+    pub fn go(&mut self, v: u32) -> Result<(), NoMemory>
+        requires { IsTrue (is_open (run self.old.script self.old.schedule) v) }
+        ensures ok { OnOk result ((o : Outcome) × OneStep self.old v o self.new) }
+        ensures err { OnErr result (self.new ≡ self.old) }
+    {
+        self.kept.go(v)
     }
 
     /// The domains as they stand, and for each section its replies so far with their steps. All is copied, the domains' memory
@@ -157,6 +181,21 @@ impl<W: SerialWorld> Model for Kept<W> {
 
 impl<W: SerialWorld> Kept<W> {
     ghost use Rattle.argo_machine.specs.Kept.{IsOpenIn, AdvancesBy, StaysKept};
+
+    // One step of a section, of whose outcome nothing is wanted.
+    fn go(&mut self, v: u32) -> Result<(), NoMemory>
+        requires { IsOpenIn self.old v }
+        ensures ok { OnOk result ((o : Outcome) × AdvancesBy self.old v o self.new) }
+        ensures err { OnErr result (StaysKept self.old self.new) }
+    {
+        self.books.reserve()?;
+        let vcpu = &mut self.vcpus[v as usize];
+        let line = vcpu.done_lines() + 1;
+        let reply = vcpu.go(v, &mut self.world)?;
+        let step = self.world.steps(v);
+        self.books.note(v, step, line, reply);
+        Ok(())
+    }
 
     // One step of a section.
     fn advance(&mut self, v: u32) -> Result<Outcome, NoMemory>

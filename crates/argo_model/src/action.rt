@@ -74,6 +74,22 @@ pub struct Answer {
     pub most: u32,
 }
 
+/// Where a message goes: from a port of the caller to a port of a domain, and its type.
+#[derive(Clone, Copy, Debug)]
+pub struct Address {
+    pub port: u32,
+    pub to: DomId,
+    pub to_port: u32,
+    pub kind: u32,
+}
+
+/// Why a fetch shows no bytes: the page is not there, or the caller's domain is gone.
+#[derive(Clone, Copy, Debug, PartialEq, Eq)]
+pub enum Unseen {
+    Fault,
+    Gone,
+}
+
 /// What an action came to.
 #[derive(Debug, Drop)]
 pub enum Outcome {

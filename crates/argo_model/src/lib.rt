@@ -17,7 +17,7 @@ mod serial_world;
 mod short;
 
 pub use access::Access;
-pub use action::{Action, Answer, Load, Outcome};
+pub use action::{Action, Address, Answer, Load, Outcome, Unseen};
 pub use closed::{
     ClosedDomain, ClosedDomains, ClosedRing, ClosedRings, Heard, HeardLine, HeardLines,
 };

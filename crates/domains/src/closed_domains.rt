@@ -18,8 +18,8 @@ impl<L: LiveDomain> Domains<L> {
         ensures { IfOk result (λ closed. closed ≡ closed_domains self.now) }
     {
         let mut closed = ClosedDomains::new(alloc);
-        for (id, domain) in &self.domains {
-            closed.push(domain_of(alloc, *id, domain)?)?;
+        for row in self.domains.rows() {
+            closed.push(domain_of(alloc, row.id, &row.domain)?)?;
         }
         Ok(closed)
     }

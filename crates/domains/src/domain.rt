@@ -1,6 +1,10 @@
 //! A domain of the world.
-ghost use Rattle.std.specs.Prelude.{◌≡◌, ◌<◌, ◌^◌, Some, IsTrue, IfOk, IfSome, OnOk, OnErr, length};
+ghost use Rattle.std.specs.Prelude.{◌≡◌, ◌+◌, ◌<◌, ◌≤◌, ◌^◌, Some, IsTrue, IfOk, IfErr, IfSome, OnOk, OnErr, length};
 ghost use Rattle.argo_base.specs.Slots.{is_legal, page_count};
+ghost use Rattle.argo_model.specs.declared.action.Action.TheVariants.{Put};
+ghost use Rattle.argo_model.specs.declared.action.Outcome.TheVariants.{Bytes};
+ghost use Rattle.argo_model.specs.Rules.Access.{fetch_of, outcome_unseen};
+ghost use Rattle.argo_model.specs.Rules.Effects.{answered};
 ghost use Rattle.argo_model.specs.Rules.Deliver.{offer_to_domain};
 ghost use Rattle.argo_model.specs.Rules.Destroy.{gone_domain, live_without, reset_live, next_domain};
 ghost use Rattle.argo_model.specs.Rules.Fit.{is_fit, is_fit_load};
@@ -10,8 +14,8 @@ ghost use Rattle.argo_model.specs.Rules.State.{change_life, signalled};
 ghost use Rattle.live_domain.specs.Keyed.{without_notice};
 ghost use Rattle.domains.specs.Domain.{own_in, register_in, sweep_in, with_left};
 
-use argo_base::{DomId, Errno, NoMemory, RingKey};
-use argo_model::{Action, Outcome};
+use argo_base::{DomId, Errno, NoMemory, Piece, RingKey};
+use argo_model::{Action, Outcome, Unseen};
 use live_domain::{Change, KeyedRings, LiveDomain, NO_ANSWER, Offer, Registration};
 use std::alloc::Global;
 use std::marker::Model;
@@ -62,6 +66,50 @@ impl<L: LiveDomain> Domain<L> {
         };
         let outcome = live.act(alloc, on, action)?;
         Ok(outcome)
+    }
+
+    /// The bytes of a piece, where the domain lives in this generation.
+    pub(crate) fn seen(&self, generation: u32, piece: Piece) -> Result<&[u8], Unseen>
+        requires { piece.off + piece.n ≤ 4096 }
+        ensures bytes { IfOk result (λ bytes.
+            own_in generation self.now (fetch_of piece) ≡ answered (Bytes bytes.now)) }
+        ensures unseen { IfErr result (λ u.
+            own_in generation self.now (fetch_of piece) ≡ answered (outcome_unseen u)) }
+    {
+        if self.generation != generation as u64 {
+            return Err(Unseen::Gone);
+        }
+        let Some(live) = &self.life else {
+            return Err(Unseen::Gone);
+        };
+        match live.seen(piece) {
+            Some(bytes) => Ok(bytes),
+            None => Err(Unseen::Fault),
+        }
+    }
+
+    /// Puts bytes into a page, where the domain lives in this generation.
+    pub(crate) fn put(
+        &mut self,
+        generation: u32,
+        page: u64,
+        off: u32,
+        bytes: &[u8],
+    ) -> Result<Outcome, NoMemory>
+        requires { off + length bytes.now ≤ 4096 }
+        ensures outcome { IfOk result
+            (λ o. o ≡ (own_in generation self.old (Put page off bytes.now)).outcome) }
+        ensures left { OnOk result (self.new
+            ≡ with_left self.old (own_in generation self.old (Put page off bytes.now)).left) }
+        ensures err { OnErr result (self.new ≡ self.old) }
+    {
+        if self.generation != generation as u64 {
+            return Ok(Outcome::Gone);
+        }
+        let Some(live) = &mut self.life else {
+            return Ok(Outcome::Gone);
+        };
+        live.put(page, off, bytes)
     }
 
     /// Sweeps the domain's next ring, where it lives in this generation. Where memory runs out all stays.
@@ -117,14 +165,16 @@ impl<L: LiveDomain> Domain<L> {
         &mut self,
         to: DomId,
         to_port: u32,
-        sent: Offer,
+        sent: &mut Offer,
     ) -> Result<Outcome, NoMemory>
-        requires { IsTrue (is_fit_load sent.load) }
+        requires { IsTrue (is_fit_load sent.old.load) }
         ensures outcome { IfOk result
-            (λ o. o ≡ (offer_to_domain to to_port sent (Some self.old)).outcome) }
+            (λ o. o ≡ (offer_to_domain to to_port sent.old (Some self.old)).outcome) }
         ensures left { OnOk result
-            (self.new ≡ with_left self.old (offer_to_domain to to_port sent (Some self.old)).left) }
+            (self.new
+            ≡ with_left self.old (offer_to_domain to to_port sent.old (Some self.old)).left) }
         ensures err { OnErr result (self.new ≡ self.old) }
+        ensures err_sent { OnErr result (sent.new ≡ sent.old) }
     {
         if !self.on {
             return Ok(Outcome::Refused(Errno::ConnRefused));

@@ -11,17 +11,17 @@ ghost use Rattle.section_world.specs.Acts.{caller_on};
 ghost use Rattle.section_world.specs.Young.{IsYoung};
 
 use crate::domain::Domain;
+use crate::domain_map::DomainMap;
 use argo_base::{DomId, Errno, NoMemory};
 use argo_model::{DomainLine, Outcome};
 use live_domain::{LiveDomain, NO_ANSWER, Offer};
 use std::alloc::Global;
-use std::collections::BTreeMap;
 use std::marker::Model;
 
 /// The domains as they stand. Contracts see the abstract state.
 #[derive(Drop)]
 pub struct Domains<L: LiveDomain> {
-    pub(crate) domains: BTreeMap<DomId, Domain<L>>,
+    pub(crate) domains: DomainMap<L>,
 }
 
 impl<L: LiveDomain> Model for Domains<L> {
@@ -29,7 +29,7 @@ impl<L: LiveDomain> Model for Domains<L> {
 
     ghost Value = { State };
 
-    ghost view = { λ w. w.domains.entries };
+    ghost view = { λ w. w.domains };
 }
 
 impl<L: LiveDomain> Domains<L> {
@@ -37,9 +37,9 @@ impl<L: LiveDomain> Domains<L> {
     pub fn new(alloc: Global, lines: &[DomainLine]) -> Result<Domains<L>, NoMemory>
         ensures { IfOk result (λ w. w ≡ state.start_state lines.now) }
     {
-        let mut domains = BTreeMap::new(alloc);
+        let mut domains = DomainMap::new(alloc);
         for line in lines {
-            domains.insert(line.id, fresh(alloc, line)?)?;
+            domains.push(line.id, fresh(alloc, line)?)?;
         }
         Ok(Domains { domains })
     }
@@ -110,14 +110,15 @@ impl<L: LiveDomain> Domains<L> {
         generation: u32,
         to: DomId,
         to_port: u32,
-        sent: Offer,
+        sent: &mut Offer,
     ) -> Result<Outcome, NoMemory>
-        requires { IsTrue (is_fit_load sent.load) }
+        requires { IsTrue (is_fit_load sent.old.load) }
         ensures ok { IfOk result
-            (λ o. act (Vcpu sent.sender generation)
-            (Deliver sent.port to to_port sent.kind sent.load) self.old
+            (λ o. act (Vcpu sent.old.sender generation)
+            (Deliver sent.old.port to to_port sent.old.kind sent.old.load) self.old
             ≡ record { outcome = o; state = self.new }) }
         ensures err { OnErr result (self.new ≡ self.old) }
+        ensures err_sent { OnErr result (sent.new ≡ sent.old) }
     {
         let Some(on) = self.caller(sent.sender, generation) else {
             return Ok(Outcome::Gone);

@@ -13,10 +13,9 @@ impl<L: LiveDomain> Domains<L> {
     pub fn forget(&mut self, dom: DomId)
         ensures { self.new ≡ ends.forget self.old dom }
     {
-        self.domains.retain(|_, domain| {
-            domain.forget(dom);
-            true
-        });
+        for row in self.domains.rows_mut().iter_mut() {
+            row.domain.forget(dom);
+        }
     }
 
     /// Ends one domain, where it is there.

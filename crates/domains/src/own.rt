@@ -1,7 +1,9 @@
 //! Acts of a domain on what it has itself, and what others are told of it.
-ghost use Rattle.std.specs.Prelude.{◌≡◌, ◌^◌, ◌&&◌, not, IsTrue, IfOk, OnErr};
-ghost use Rattle.argo_model.specs.declared.action.Action.TheVariants.{Sweep as Sweeps};
+ghost use Rattle.std.specs.Prelude.{◌≡◌, ◌^◌, ◌&&◌, not, IsTrue, IfOk, IfErr, OnErr};
+ghost use Rattle.argo_model.specs.declared.action.Action.TheVariants.{Put, Sweep as Sweeps};
+ghost use Rattle.argo_model.specs.declared.action.Outcome.TheVariants.{Bytes};
 ghost use Rattle.argo_model.specs.declared.scripts.Actor.TheVariants.{Vcpu};
+ghost use Rattle.argo_model.specs.Rules.Access.{fetch_of, outcome_unseen};
 ghost use Rattle.argo_model.specs.Rules.Act.{act};
 ghost use Rattle.argo_model.specs.Rules.Fit.{is_fit};
 ghost use Rattle.argo_model.specs.Rules.Register.{is_single};
@@ -12,8 +14,8 @@ ghost use Rattle.domains.specs.World.{registered, swept};
 ghost use Rattle.section_world.specs.Young.{IsYoung};
 
 use crate::domains::Domains;
-use argo_base::{DomId, Errno, NoMemory};
-use argo_model::{Action, Outcome};
+use argo_base::{DomId, Errno, NoMemory, Piece};
+use argo_model::{Action, Outcome, Unseen};
 use live_domain::{Change, LiveDomain, Registration};
 use std::alloc::Global;
 
@@ -38,6 +40,41 @@ impl<L: LiveDomain> Domains<L> {
         };
         let outcome = domain.act(alloc, generation, action)?;
         Ok(outcome)
+    }
+
+    /// The bytes of a piece of a caller.
+    pub fn seen(&self, dom: DomId, generation: u32, piece: Piece) -> Result<&[u8], Unseen>
+        requires { IsTrue (is_fit (fetch_of piece)) }
+        ensures bytes { IfOk result (λ bytes. act (Vcpu dom generation) (fetch_of piece) self.now
+            ≡ record { outcome = Bytes bytes.now; state = self.now }) }
+        ensures unseen { IfErr result (λ u. act (Vcpu dom generation) (fetch_of piece) self.now
+            ≡ record { outcome = outcome_unseen u; state = self.now }) }
+    {
+        match self.domains.get(&dom) {
+            Some(domain) => domain.seen(generation, piece),
+            None => Err(Unseen::Gone),
+        }
+    }
+
+    /// A caller puts bytes into a page. Where memory runs out all stay.
+    pub fn put(
+        &mut self,
+        caller: (DomId, u32),
+        page: u64,
+        off: u32,
+        bytes: &[u8],
+    ) -> Result<Outcome, NoMemory>
+        requires { IsTrue (is_fit (Put page off bytes.now)) }
+        ensures ok { IfOk result
+            (λ o. act (Vcpu caller.0 caller.1) (Put page off bytes.now) self.old
+            ≡ record { outcome = o; state = self.new }) }
+        ensures err { OnErr result (self.new ≡ self.old) }
+    {
+        let (dom, generation) = caller;
+        let Some(domain) = self.domains.get_mut(&dom) else {
+            return Ok(Outcome::Gone);
+        };
+        domain.put(generation, page, off, bytes)
     }
 
     /// A caller sweeps its next ring. Where memory runs out all stay.

@@ -3,7 +3,7 @@
 use crate::matches::{match_key, next_key};
 use crate::ring::Ring;
 use crate::{closed_rings, final_rings};
-use argo_base::{Bytes, DomId, Errno, NoMemory, RingKey};
+use argo_base::{Bytes, DomId, Errno, NoMemory, Piece, RingKey};
 use argo_model::{Action, ClosedRings, FinalRings, Outcome};
 use live_domain::{Change, LiveDomain, NO_ANSWER, Offer, Registration};
 use std::alloc::Global;
@@ -53,8 +53,8 @@ impl LiveDomain for Live {
 
     fn act(&mut self, alloc: Global, on: bool, action: Action) -> Result<Outcome, NoMemory> {
         match action {
-            Action::Fetch { page, off, n } => self.fetch(alloc, page, off, n),
-            Action::Put { page, off, bytes } => Ok(self.put(page, off, bytes.as_slice())),
+            Action::Fetch { page, off, n } => self.fetch(alloc, Piece { page, off, n }),
+            Action::Put { page, off, bytes } => Ok(self.put_bytes(page, off, bytes.as_slice())),
             Action::Unregister { port, partner } if on => {
                 Ok(self.unregister(RingKey { port, partner }))
             }
@@ -62,6 +62,14 @@ impl LiveDomain for Live {
             Action::Look => Ok(self.look()),
             _ => Ok(Outcome::Done),
         }
+    }
+
+    fn seen(&self, piece: Piece) -> Option<&[u8]> {
+        self.shown(piece)
+    }
+
+    fn put(&mut self, page: u64, off: u32, bytes: &[u8]) -> Result<Outcome, NoMemory> {
+        Ok(self.put_bytes(page, off, bytes))
     }
 
     fn register(&mut self, alloc: Global, r: Registration) -> Result<Change, NoMemory> {
@@ -78,7 +86,7 @@ impl LiveDomain for Live {
         Ok(change)
     }
 
-    fn offer(&mut self, to: DomId, to_port: u32, sent: Offer) -> Result<Outcome, NoMemory> {
+    fn offer(&mut self, to: DomId, to_port: u32, sent: &mut Offer) -> Result<Outcome, NoMemory> {
         let key = match_key(&self.rings, to_port, sent.sender);
         let Some(ring) = self.rings.get_mut(&key) else {
             return Ok(Outcome::Refused(Errno::ConnRefused));

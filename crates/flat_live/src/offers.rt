@@ -16,54 +16,46 @@ use crate::spelling::write_message;
 use argo_base::{Bytes, DomId, Errno, Message, NoMemory, slots};
 use argo_model::{Load, Outcome};
 use live_domain::Offer;
+use std::mem;
 
 impl Ring {
-    /// Takes an offer to this ring of a domain with this memory. Where memory runs out all stays.
-    pub(crate) fn offer(&mut self, memory: &mut Bytes, offer: Offer) -> Result<Outcome, NoMemory>
+    /// Takes an offer to this ring of a domain with this memory. Where memory runs out all stays, the offer too.
+    pub(crate) fn offer(
+        &mut self,
+        memory: &mut Bytes,
+        offer: &mut Offer,
+    ) -> Result<Outcome, NoMemory>
         requires there { IsTrue (are_there (length memory.old / 4096) self.old.pages) }
-        requires short { IsTrue (is_fit_load offer.load) }
+        requires short { IsTrue (is_fit_load offer.old.load) }
         ensures outcome { IfOk result
             (λ o. (owner : ℕ) → o
-            ≡ (deliver.offer (paged memory.old self.old) owner offer).outcome) }
+            ≡ (deliver.offer (paged memory.old self.old) owner offer.old).outcome) }
         ensures ring { OnOk result
-            ((owner : ℕ) → self.new ≡ (offered memory.old self.old owner offer).ring) }
+            ((owner : ℕ) → self.new ≡ (offered memory.old self.old owner offer.old).ring) }
         ensures memory { OnOk result
             ((owner : ℕ) → memory.new
-            ≡ laid self.old.pages (offered memory.old self.old owner offer).own memory.old) }
+            ≡ laid self.old.pages (offered memory.old self.old owner offer.old).own memory.old) }
         ensures err_ring { OnErr result (self.new ≡ self.old) }
         ensures err_memory { OnErr result (memory.new ≡ memory.old) }
+        ensures err_offer { OnErr result (offer.new ≡ offer.old) }
         ensures pages { self.new.pages ≡ self.old.pages }
         ensures length { length memory.new ≡ length memory.old }
     {
-        let Offer {
-            sender,
-            port,
-            kind,
-            load,
-        } = offer;
-        match load {
-            Load::Refused(error) => Ok(Outcome::Refused(error)),
+        let size = match &offer.load {
+            Load::Refused(error) => return Ok(Outcome::Refused(*error)),
             Load::Faulted(size) => {
-                if !self.has_room(memory.as_slice(), size) {
-                    return self.turn_away(sender, size);
+                if !self.has_room(memory.as_slice(), *size) {
+                    return self.turn_away(offer.sender, *size);
                 }
-                Ok(Outcome::Refused(Errno::Fault))
+                return Ok(Outcome::Refused(Errno::Fault));
             }
-            Load::Body(body) => {
-                let size = body.len() as u32;
-                if !self.has_room(memory.as_slice(), size) {
-                    return self.turn_away(sender, size);
-                }
-                let message = Message {
-                    src: sender,
-                    port,
-                    kind,
-                    body,
-                };
-                self.accept(memory, message)?;
-                Ok(Outcome::Accepted(size))
-            }
+            Load::Body(body) => body.len() as u32,
+        };
+        if !self.has_room(memory.as_slice(), size) {
+            return self.turn_away(offer.sender, size);
         }
+        self.accept(memory, offer)?;
+        Ok(Outcome::Accepted(size))
     }
 
     // Whether a body of `size` bytes can fit, and does now.
@@ -99,27 +91,36 @@ impl Ring {
     }
 
     // Takes a message in: its bytes into the memory of the ring's owner, and into the untaken messages where the ring is clean.
-    fn accept(&mut self, memory: &mut Bytes, message: Message) -> Result<(), NoMemory>
+    fn accept(&mut self, memory: &mut Bytes, offer: &mut Offer) -> Result<(), NoMemory>
         requires there { IsTrue (are_there (length memory.old / 4096) self.old.pages) }
-        requires room { room_of message ≤ self.old.len }
-        requires short { length message.body ≤ longest_body }
-        ensures ring { OnOk result (self.new ≡ deliver.ring_with self.old message) }
+        requires room { IfBody offer.old (λ message. room_of message ≤ self.old.len) }
+        requires short { IfBody offer.old (λ message. length message.body ≤ longest_body) }
+        ensures ring { OnOk result
+            (IfBody offer.old (λ message. self.new ≡ deliver.ring_with self.old message)) }
         ensures memory { OnOk result
-            (memory.new
+            (IfBody offer.old (λ message. memory.new
             ≡ laid self.old.pages
-            (deliver.bytes_with (paged memory.old self.old) message) memory.old) }
+            (deliver.bytes_with (paged memory.old self.old) message) memory.old)) }
         ensures err_ring { OnErr result (self.new ≡ self.old) }
         ensures err_memory { OnErr result (memory.new ≡ memory.old) }
+        ensures err_offer { OnErr result (offer.new ≡ offer.old) }
         ensures pages { self.new.pages ≡ self.old.pages }
         ensures length { length memory.new ≡ length memory.old }
     {
-        if !self.clean {
-            self.tx = self.write(memory, &message);
-            return Ok(());
-        }
         self.untaken.reserve()?;
+        let Load::Body(body) = mem::replace(&mut offer.load, Load::Faulted(0)) else {
+            return Ok(());
+        };
+        let message = Message {
+            src: offer.sender,
+            port: offer.port,
+            kind: offer.kind,
+            body,
+        };
         self.tx = self.write(memory, &message);
-        self.untaken.push_reserved(message);
+        if self.clean {
+            self.untaken.push_reserved(message);
+        }
         Ok(())
     }
 

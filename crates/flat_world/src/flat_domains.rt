@@ -1,7 +1,7 @@
 //! The domains of the flat world: what another keeps for a domain that ends is found by a walk over all.
 
-use argo_base::{DomId, Errno, NoMemory, RingKey};
-use argo_model::{Action, ClosedDomains, DomainLine, FinalDomains, Outcome};
+use argo_base::{DomId, Errno, NoMemory, Piece, RingKey};
+use argo_model::{Action, ClosedDomains, DomainLine, FinalDomains, Outcome, Unseen};
 use domains::Domains;
 use flat_live::Live;
 use live_domain::{Offer, Registration};
@@ -49,6 +49,20 @@ impl DomainActs for FlatDomains {
         self.domains.own_act(alloc, dom, generation, action)
     }
 
+    fn seen(&self, dom: DomId, generation: u32, piece: Piece) -> Result<&[u8], Unseen> {
+        self.domains.seen(dom, generation, piece)
+    }
+
+    fn put(
+        &mut self,
+        caller: (DomId, u32),
+        page: u64,
+        off: u32,
+        bytes: &[u8],
+    ) -> Result<Outcome, NoMemory> {
+        self.domains.put(caller, page, off, bytes)
+    }
+
     fn register(
         &mut self,
         alloc: Global,
@@ -89,7 +103,7 @@ impl DomainActs for FlatDomains {
         generation: u32,
         to: DomId,
         to_port: u32,
-        sent: Offer,
+        sent: &mut Offer,
     ) -> Result<Outcome, NoMemory> {
         self.domains.deliver(generation, to, to_port, sent)
     }

@@ -1,20 +1,22 @@
 -- The stages of a recv as the code has them.
-use Rattle.std.specs.Prelude.{◌≡◌, ℕ, ◌+◌, ◌-◌, ◌/◌, ◌%◌, ◌^◌, ◌<◌, ◌≤◌, List, [], ◌∷◌, length, slice_get, Some, sum_by, IsTrue, Bool, false, vec_capacity}
+use Rattle.std.specs.Prelude.{◌≡◌, ℕ, ◌+◌, ◌-◌, ◌/◌, ◌%◌, ◌^◌, ◌<◌, ◌≤◌, List, [], ◌∷◌, length, slice_get, Option, Some, None, sum_by, IsTrue, Bool, false, vec_capacity}
 use Rattle.argo_base.specs.declared.piece.Piece.{Piece}
 use Rattle.argo_base.specs.Slots.{is_place}
 use Rattle.argo_model.specs.declared.action.Action.{Action}
 use Rattle.argo_model.specs.declared.action.Action.TheVariants.{Fetch}
 use Rattle.argo_model.specs.declared.action.Outcome.{Outcome}
+use Rattle.argo_model.specs.declared.action.Outcome.TheVariants.{Bytes}
 use Rattle.argo_model.specs.Rules.Outcomes.{can_have}
 use Rattle.argo_model.specs.Programs.Asks.{Rests, Do, CanFollow}
 use Rattle.argo_model.specs.Programs.Recv.{End, say_found}
 use Rattle.guest_lib.specs.declared.own_ring.OwnRing.{OwnRing}
+use Rattle.guest_lib.specs.declared.received.Received.{Received}
 use Rattle.guest_lib.specs.declared.stage.BodyRead.{BodyRead}
 use Rattle.guest_lib.specs.declared.stage.Stage.{Stage}
 use Rattle.guest_lib.specs.declared.stage.Stage.TheVariants.{Rx, Tx, Head, Body, Word, Done}
 use Rattle.guest_lib.specs.declared.stage.Onward.{Onward}
 use Rattle.guest_lib.specs.declared.stage.Onward.TheVariants.{To, Ended}
-use Rattle.guest_lib.specs.Receiving.{Step, ReadRx, ReadTx, ReadHead, ReadBody, PutRx, Over, ended, step_left, ahead_at, IsShort}
+use Rattle.guest_lib.specs.Receiving.{Step, ReadRx, ReadTx, ReadHead, ReadBody, PutRx, Over, ended, step_left, ahead_at, IsShort, message_with}
 
 abbrev pub read_body : BodyRead → Step
 read_body b = ReadBody b.slots b.got.items b.head b.word
@@ -90,3 +92,12 @@ pub record Follows (ring : OwnRing) (step : Step) (o : Outcome) (onward : Onward
   pub rest : (end : End) (os : List Outcome) → ahead_at end ring.page ring.len step (o ∷ os) ≡ rest_onward end ring onward os
   pub ready : IsOnward ring.len onward
   pub nearer : onward_left onward < step_left step
+
+-- with the bytes of its fetch a recv goes on to this stage, or comes to its end
+abbrev pub Hears : OwnRing → Step → List ℕ → Option Received → Stage → Type 0
+Hears ring step bytes None stage = Follows ring step (Bytes bytes) (To stage)
+Hears ring step bytes (Some received) stage = Follows ring step (Bytes bytes) (Ended received)
+
+-- the rx word is to be put, and then the message is taken
+abbrev pub word_stage : BodyRead → Stage
+word_stage b = Word b.word (message_with b.head b.got.items)

@@ -1,6 +1,6 @@
 //! The body of a message, fetched piece by piece.
 
-ghost use Rattle.std.specs.Prelude.{◌≡◌, ◌+◌, ◌<◌, ◌≤◌, ℕ, Bool, length, true, false, IsTrue, IfOk, OnOk};
+ghost use Rattle.std.specs.Prelude.{◌≡◌, ◌+◌, ◌<◌, ◌≤◌, ℕ, Bool, length, true, false, IsTrue, IsFalse, IfOk, OnOk};
 ghost use Rattle.guest_lib.specs.declared.own_ring.OwnRing.{OwnRing as AnyRing};
 ghost use Rattle.argo_model.specs.Rules.Fit.{is_fit};
 ghost use Rattle.guest_lib.specs.Receiving.{message_with, step_left};
@@ -9,9 +9,11 @@ use crate::fetched::bytes_of;
 use crate::stage::{BodyRead, Onward, Stage};
 use argo_base::{Bytes, DomId, Message, NoMemory};
 use argo_model::{Action, Outcome};
+use std::alloc::Global;
+use std::mem;
 
 impl BodyRead {
-    ghost use Rattle.guest_lib.specs.Stage.{IsBody, HasBodySize, IsStage, Follows, GoAlike, IsAction, CanHearPiece, read_body, step_of};
+    ghost use Rattle.guest_lib.specs.Stage.{IsBody, HasBodySize, IsStage, Follows, GoAlike, IsAction, CanHearPiece, read_body, step_of, word_stage};
 
     /// The fetch of the next piece, with the memory for all of the body.
     pub(crate) fn next(&mut self) -> Result<Action, NoMemory>
@@ -33,6 +35,36 @@ impl BodyRead {
             off: piece.off,
             n: piece.n,
         })
+    }
+
+    /// Takes the bytes of the next piece: whether others are to come.
+    pub(crate) fn hear(&mut self, bytes: &[u8]) -> bool
+        requires ready { IsBody true self.old }
+        requires can { CanHearPiece self.old (Outcome.Bytes bytes.now) }
+        ensures more { IsTrue result → (ring : AnyRing) → Follows ring (read_body self.old)
+            (Outcome.Bytes bytes.now) (Onward.To (Stage.Body self.new)) }
+        ensures last { IsFalse result → (ring : AnyRing) → Follows ring (read_body self.old)
+            (Outcome.Bytes bytes.now) (Onward.To (word_stage self.new)) }
+    {
+        self.got.extend_from_slice(bytes).unwrap();
+        self.slots.drop_first();
+        self.slots.first().is_some()
+    }
+
+    /// The put of the rx word, with the message.
+    pub(crate) fn word_stage(&mut self, alloc: Global) -> Stage
+        ensures { result ≡ word_stage self.old }
+    {
+        let got = mem::replace(&mut self.got, Vec::new(alloc));
+        Stage::Word {
+            word: self.word,
+            message: Message {
+                src: DomId(self.head.source.domain_id),
+                port: self.head.source.aport,
+                kind: self.head.message_type,
+                body: Bytes::from_vec(got),
+            },
+        }
     }
 
     /// Where the library goes with the outcome of that fetch.

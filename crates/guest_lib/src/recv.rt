@@ -1,15 +1,18 @@
 //! A recv, action by action.
 
-ghost use Rattle.std.specs.Prelude.{◌≡◌, ◌<◌, ◌↔◌, true, IsTrue, IsSome, IfOk, IfSome, IfNone, OnOk, OnErr};
+ghost use Rattle.std.specs.Prelude.{◌≡◌, ◌<◌, ◌↔◌, true, IsTrue, IsSome, IfOk, IfErr, IfSome, IfNone, OnOk, OnErr};
 ghost use Rattle.argo_base.specs.Slots.{is_legal};
+ghost use Rattle.argo_model.specs.declared.action.Outcome.TheVariants.{Bytes};
+ghost use Rattle.argo_model.specs.Rules.Access.{outcome_unseen};
 ghost use Rattle.argo_model.specs.Rules.Fit.{is_fit};
 ghost use Rattle.guest_lib.specs.Receiving.{Starts, IsUnderWay, IsShort, IsNext, FeedsAll, CanFeed, GoesOn, left_of};
 
+use crate::fetched::unseen_by;
 use crate::own_ring::OwnRing;
 use crate::received::Received;
 use crate::stage::{Onward, Stage};
 use argo_base::NoMemory;
-use argo_model::{Action, Outcome};
+use argo_model::{Action, Outcome, Unseen};
 use std::alloc::Global;
 use std::marker::Model;
 use std::mem;
@@ -67,6 +70,13 @@ impl Recv {
         Ok(action)
     }
 
+    /// The put that is next, where one is: the page whose first bytes it is of, and the word. It takes no memory, and is asked for then.
+    pub fn next_put(&mut self) -> Option<(u64, [u8; 4])> {
+        let word = self.stage.word()?;
+        self.ready = true;
+        Some((u64::from(self.ring.page), word.to_le_bytes()))
+    }
+
     /// Takes the outcome of the action that `next` gave, and answers what the recv came to, where it has come to its end. It takes
     /// no memory.
     pub fn feed(&mut self, outcome: Outcome) -> Option<Received>
@@ -79,6 +89,29 @@ impl Recv {
         ensures over { IsSome result ↔ (left_of self.new ≡ 0) }
     {
         self.feed_by(&outcome)
+    }
+
+    /// As `feed`, of the bytes that a fetch showed.
+    pub fn hear(&mut self, seen: Result<&[u8], Unseen>) -> Option<Received>
+        requires ready { IsTrue self.old.ready }
+        requires can { IfOk seen (λ bytes. CanFeed self.old (Bytes bytes.now)) }
+        requires can_not { IfErr seen (λ u. CanFeed self.old (outcome_unseen u)) }
+        ensures goes_on { IfOk seen
+            (λ bytes. GoesOn self.old (Bytes bytes.now) result self.new) }
+        ensures ends { IfErr seen (λ u. GoesOn self.old (outcome_unseen u) result self.new) }
+        ensures under_way { IfNone result (IsUnderWay self.new) }
+        ensures short { IfSome result IsShort }
+        ensures nearer { left_of self.new < left_of self.old }
+        ensures over { IsSome result ↔ (left_of self.new ≡ 0) }
+    {
+        self.ready = false;
+        match seen {
+            Ok(bytes) => self.stage.hear(self.alloc, self.ring, bytes),
+            Err(unseen) => {
+                self.stage = Stage::Done;
+                Some(unseen_by(unseen))
+            }
+        }
     }
 
     /// As `feed`, of an outcome that the caller keeps.

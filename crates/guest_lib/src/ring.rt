@@ -39,20 +39,36 @@ impl OwnRing {
         ensures { Follows self ReadRx outcome.now result }
     {
         match bytes_of(outcome) {
-            Ok(bytes) => Onward::To(Stage::Tx { rx: word_in(bytes) }),
+            Ok(bytes) => self.rx_heard(bytes),
             Err(received) => Onward::Ended(received),
         }
     }
 
-    /// Where it goes with that of the tx word's, after the rx word.
+    /// Where it goes with the bytes of that fetch.
+    pub(crate) fn rx_heard(self, bytes: &[u8]) -> Onward
+        requires { length bytes.now ≡ 4 }
+        ensures { Follows self ReadRx (Outcome.Bytes bytes.now) result }
+    {
+        Onward::To(Stage::Tx { rx: word_in(bytes) })
+    }
+
+    /// Where it goes with the outcome of the tx word's fetch, after the rx word.
     pub(crate) fn tx_fed(self, rx: u32, outcome: &Outcome) -> Onward
         requires { IsTrue (can_have (Action.Fetch self.page 4 4) outcome.now) }
         ensures { Follows self (ReadTx rx) outcome.now result }
     {
-        let tx = match bytes_of(outcome) {
-            Ok(bytes) => word_in(bytes),
-            Err(received) => return Onward::Ended(received),
-        };
+        match bytes_of(outcome) {
+            Ok(bytes) => self.tx_heard(rx, bytes),
+            Err(received) => Onward::Ended(received),
+        }
+    }
+
+    /// Where it goes with the bytes of that fetch.
+    pub(crate) fn tx_heard(self, rx: u32, bytes: &[u8]) -> Onward
+        requires { length bytes.now ≡ 4 }
+        ensures { Follows self (ReadTx rx) (Outcome.Bytes bytes.now) result }
+    {
+        let tx = word_in(bytes);
         if !is_place(self.len, rx) || !is_place(self.len, tx) {
             return Onward::Ended(Received::Bad);
         }
@@ -62,7 +78,7 @@ impl OwnRing {
         Onward::To(Stage::Head { rx, tx })
     }
 
-    /// Where it goes with that of the fetch of the header at rx.
+    /// Where it goes with the outcome of the fetch of the header at rx.
     pub(crate) fn head_fed(self, alloc: Global, rx: u32, tx: u32, outcome: &Outcome) -> Onward
         requires ring { IsTrue (is_legal self.len) }
         requires rx { IsTrue (place_fits self.len rx) }
@@ -70,10 +86,20 @@ impl OwnRing {
         requires can { IsTrue (can_have (head_fetch self rx) outcome.now) }
         ensures { Follows self (ReadHead rx tx) outcome.now result }
     {
-        let bytes = match bytes_of(outcome) {
-            Ok(bytes) => bytes,
-            Err(received) => return Onward::Ended(received),
-        };
+        match bytes_of(outcome) {
+            Ok(bytes) => self.head_heard(alloc, rx, tx, bytes),
+            Err(received) => Onward::Ended(received),
+        }
+    }
+
+    /// Where it goes with the bytes of that fetch.
+    pub(crate) fn head_heard(self, alloc: Global, rx: u32, tx: u32, bytes: &[u8]) -> Onward
+        requires ring { IsTrue (is_legal self.len) }
+        requires rx { IsTrue (place_fits self.len rx) }
+        requires tx { tx < self.len }
+        requires size { length bytes.now ≡ 16 }
+        ensures { Follows self (ReadHead rx tx) (Outcome.Bytes bytes.now) result }
+    {
         let Some(bytes) = bytes.first_chunk() else {
             unreachable!();
         };

@@ -14,7 +14,7 @@ use argo_model::{Action, Outcome};
 use std::alloc::Global;
 
 impl Stage {
-    ghost use Rattle.guest_lib.specs.Stage.{IsStage, StaysReady, IsAction, CanHear, Follows, step_of};
+    ghost use Rattle.guest_lib.specs.Stage.{IsStage, StaysReady, IsAction, CanHear, Follows, Hears, step_of};
 
     /// The next action, with the memory that its outcome will want.
     pub(crate) fn next(&mut self, alloc: Global, ring: OwnRing) -> Result<Action, NoMemory>
@@ -38,6 +38,45 @@ impl Stage {
                 bytes: Bytes::copy_of(alloc, &word.to_le_bytes())?,
             }),
             Stage::Done => unreachable!(),
+        }
+    }
+
+    /// The rx word, where it is to be put.
+    pub(crate) fn word(&self) -> Option<u32> {
+        match self {
+            Stage::Word { word, .. } => Some(*word),
+            _ => None,
+        }
+    }
+
+    /// Goes on with the bytes of a fetch, or answers what the recv came to.
+    pub(crate) fn hear(&mut self, alloc: Global, ring: OwnRing, bytes: &[u8]) -> Option<Received>
+        requires ready { IsStage ring.len true self.old }
+        requires ring { IsTrue (is_legal ring.len) }
+        requires can { CanHear ring (step_of self.old) (Outcome.Bytes bytes.now) }
+        ensures { Hears ring (step_of self.old) bytes.now result self.new }
+    {
+        let onward = match self {
+            Stage::Rx => ring.rx_heard(bytes),
+            Stage::Tx { rx } => ring.tx_heard(*rx, bytes),
+            Stage::Head { rx, tx } => ring.head_heard(alloc, *rx, *tx, bytes),
+            Stage::Body(body) => {
+                if body.hear(bytes) {
+                    return None;
+                }
+                Onward::To(body.word_stage(alloc))
+            }
+            _ => unreachable!(),
+        };
+        match onward {
+            Onward::To(stage) => {
+                *self = stage;
+                None
+            }
+            Onward::Ended(received) => {
+                *self = Stage::Done;
+                Some(received)
+            }
         }
     }
 

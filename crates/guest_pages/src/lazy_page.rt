@@ -88,6 +88,16 @@ impl LazyPage {
         self.frame.page_mut()
     }
 
+    /// The bytes of the page.
+    pub(crate) fn bytes<'a>(&'a self, zeros: &'a ZeroPage) -> &'a [u8]
+        ensures { result.now ≡ page_of self.now }
+    {
+        match &self.frame.page {
+            Some(page) => page.bytes(),
+            None => zeros.bytes(),
+        }
+    }
+
     /// A copy of `n` bytes of the page from an offset on.
     pub(crate) fn copy(&self, zeros: &ZeroPage, off: u32, n: u32) -> Result<Bytes, NoMemory>
         requires { off + n ≤ page_bytes }

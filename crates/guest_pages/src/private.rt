@@ -1,5 +1,5 @@
 //! The pages of a domain that stand in no ring.
-ghost use Rattle.std.specs.Prelude.{◌≡◌, ◌+◌, ◌≤◌, length, take, drop, replicate, IsTrue, IsFalse, is_some, option_map, Some, Err, IfOk, OnOk, IfErr, OnErr};
+ghost use Rattle.std.specs.Prelude.{◌≡◌, ◌+◌, ◌≤◌, length, take, drop, replicate, IsTrue, IsFalse, is_some, option_map, Some, None, Err, IfSome, IfNone, IfOk, OnOk, IfErr, OnErr};
 ghost use Rattle.std.specs.List.{All};
 ghost use Rattle.argo_base.specs.Limits.{page_bytes};
 ghost use Rattle.guest_pages.specs.PageBytes.{zero_page, IsWhole};
@@ -66,6 +66,18 @@ impl Private {
             return Ok(None);
         };
         Ok(Some(page.copy(&self.zeros, off, n)?))
+    }
+
+    /// The bytes of a page, or none where the page is absent or lent.
+    pub fn page(&self, page: u64) -> Option<&[u8]>
+        ensures some { IfSome result (λ bytes. page_at self.now page ≡ Some bytes.now) }
+        ensures none { IfNone result (page_at self.now page ≡ None) }
+        ensures whole { IfSome result (λ bytes. length bytes.now ≡ page_bytes) }
+    {
+        let Some(Some(page)) = self.slots.get(page as usize) else {
+            return None;
+        };
+        Some(page.bytes(&self.zeros))
     }
 
     /// Writes into a page from an offset on; false where the page is absent or lent. The first write into a page takes

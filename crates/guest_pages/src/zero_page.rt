@@ -47,6 +47,13 @@ impl ZeroPage {
         self.page.twin(self.alloc)
     }
 
+    /// Its bytes.
+    pub(crate) fn bytes(&self) -> &[u8]
+        ensures { result.now ≡ zero_page }
+    {
+        self.page.bytes()
+    }
+
     /// A copy of `n` bytes of a page of zeros from an offset on.
     pub(crate) fn copy(&self, off: u32, n: u32) -> Result<Bytes, NoMemory>
         requires { off + n ≤ page_bytes }

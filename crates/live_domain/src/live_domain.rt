@@ -1,7 +1,9 @@
 //! A domain that is alive, with the acts that touch nothing else.
-ghost use Rattle.std.specs.Prelude.{◌≡◌, ◌<◌, ◌^◌, IsTrue, IfOk, OnOk, OnErr, length, map};
+ghost use Rattle.std.specs.Prelude.{◌≡◌, ◌+◌, ◌<◌, ◌≤◌, ◌^◌, IsTrue, IfOk, IfSome, IfNone, OnOk, OnErr, length, map};
 ghost use Rattle.argo_base.specs.Match.{match_of};
 ghost use Rattle.argo_base.specs.Slots.{is_legal, page_count};
+ghost use Rattle.argo_model.specs.declared.action.Outcome.TheVariants.{Bytes, Fault};
+ghost use Rattle.argo_model.specs.Rules.Act as acts;
 ghost use Rattle.argo_model.specs.Rules.Deliver.{offer_to_live};
 ghost use Rattle.argo_model.specs.Rules.Destroy.{live_without, reset_live};
 ghost use Rattle.argo_model.specs.Rules.Effects as effects;
@@ -15,7 +17,7 @@ ghost use Rattle.argo_model.specs.Runs.Final.{final_ring};
 ghost use Rattle.live_domain.specs.Own.{own_change};
 
 use crate::{Change, Offer, Registration};
-use argo_base::{Bytes, DomId, NoMemory};
+use argo_base::{Bytes, DomId, NoMemory, Piece};
 use argo_model::{Action, ClosedRings, FinalRings, Outcome};
 use std::alloc::Global;
 
@@ -36,6 +38,23 @@ pub trait LiveDomain: Sized + Drop {
             (live self.new ≡ effects.after (live self.old) (own_change on (live self.old) action)) }
         ensures err { OnErr result (live self.new ≡ live self.old) };
 
+    /// The bytes of a piece, where its page is there.
+    fn seen(&self, piece: Piece) -> Option<&[u8]>
+        requires { piece.off + piece.n ≤ 4096 }
+        ensures some { IfSome result (λ bytes.
+            acts.fetch (live self.now) piece.page piece.off piece.n ≡ Bytes bytes.now) }
+        ensures none { IfNone result
+            (acts.fetch (live self.now) piece.page piece.off piece.n ≡ Fault) };
+
+    /// Puts bytes at an offset of a page.
+    fn put(&mut self, page: u64, off: u32, bytes: &[u8]) -> Result<Outcome, NoMemory>
+        requires { off + length bytes.now ≤ 4096 }
+        ensures outcome { IfOk result
+            (λ o. o ≡ (acts.put (live self.old) page off bytes.now).outcome) }
+        ensures left { OnOk result (live self.new
+            ≡ effects.after (live self.old) (acts.put (live self.old) page off bytes.now)) }
+        ensures err { OnErr result (live self.new ≡ live self.old) };
+
     /// Registers a ring.
     fn register(&mut self, alloc: Global, r: Registration) -> Result<Change, NoMemory>
         requires legal { IsTrue (is_legal r.len) }
@@ -49,14 +68,15 @@ pub trait LiveDomain: Sized + Drop {
             (register_own (live self.old) r.key r.len r.pages r.fail_exist)) }
         ensures err { OnErr result (live self.new ≡ live self.old) };
 
-    /// Takes an offer to the ring that the sender meets at a port of this domain.
-    fn offer(&mut self, to: DomId, to_port: u32, sent: Offer) -> Result<Outcome, NoMemory>
-        requires { IsTrue (is_fit_load sent.load) }
+    /// Takes an offer to the ring that the sender meets at a port of this domain. Its load is taken.
+    fn offer(&mut self, to: DomId, to_port: u32, sent: &mut Offer) -> Result<Outcome, NoMemory>
+        requires { IsTrue (is_fit_load sent.old.load) }
         ensures outcome { IfOk result
-            (λ o. o ≡ (offer_to_live to to_port sent (live self.old)).outcome) }
+            (λ o. o ≡ (offer_to_live to to_port sent.old (live self.old)).outcome) }
         ensures left { OnOk result (live self.new
-            ≡ effects.after (live self.old) (offer_to_live to to_port sent (live self.old))) }
-        ensures err { OnErr result (live self.new ≡ live self.old) };
+            ≡ effects.after (live self.old) (offer_to_live to to_port sent.old (live self.old))) }
+        ensures err { OnErr result (live self.new ≡ live self.old) }
+        ensures err_sent { OnErr result (sent.new ≡ sent.old) };
 
     /// Answers a sender that asks for room at a port.
     fn answer(&mut self, port: u32, sender: DomId, need: u32) -> Result<Outcome, NoMemory>

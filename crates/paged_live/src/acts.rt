@@ -7,7 +7,7 @@ use crate::offers::{match_key, offer_to};
 use crate::queries::ask;
 use crate::sweeps::sweep_ring;
 use crate::{closed, finals};
-use argo_base::{Bytes, DomId, Errno, NoMemory, RingKey};
+use argo_base::{Bytes, DomId, Errno, NoMemory, Piece, RingKey};
 use argo_model::{Action, ClosedRings, FinalRings, Outcome};
 use guest_pages::Private;
 use live_domain::{Change, KeyedRings, LiveDomain, NO_ANSWER, Offer, Registration};
@@ -32,8 +32,8 @@ impl LiveDomain for Live {
 
     fn act(&mut self, alloc: Global, on: bool, action: Action) -> Result<Outcome, NoMemory> {
         match action {
-            Action::Fetch { page, off, n } => self.fetch(alloc, page, off, n),
-            Action::Put { page, off, bytes } => self.put(page, off, bytes.as_slice()),
+            Action::Fetch { page, off, n } => self.fetch(alloc, Piece { page, off, n }),
+            Action::Put { page, off, bytes } => self.put_bytes(page, off, bytes.as_slice()),
             Action::Unregister { port, partner } if on => {
                 Ok(self.unregister(RingKey { port, partner }))
             }
@@ -41,6 +41,14 @@ impl LiveDomain for Live {
             Action::Look => Ok(self.look()),
             _ => Ok(Outcome::Done),
         }
+    }
+
+    fn seen(&self, piece: Piece) -> Option<&[u8]> {
+        self.shown(piece)
+    }
+
+    fn put(&mut self, page: u64, off: u32, bytes: &[u8]) -> Result<Outcome, NoMemory> {
+        self.put_bytes(page, off, bytes)
     }
 
     fn register(&mut self, alloc: Global, r: Registration) -> Result<Change, NoMemory> {
@@ -58,7 +66,7 @@ impl LiveDomain for Live {
         Ok(Change::quiet(alloc, outcome))
     }
 
-    fn offer(&mut self, _to: DomId, to_port: u32, sent: Offer) -> Result<Outcome, NoMemory> {
+    fn offer(&mut self, _to: DomId, to_port: u32, sent: &mut Offer) -> Result<Outcome, NoMemory> {
         let key = match_key(&self.rings, to_port, sent.sender);
         let Some(ring) = self.rings.find_exact_mut(key) else {
             return Ok(Outcome::Refused(Errno::ConnRefused));

@@ -1,12 +1,11 @@
 //! What a domain has that is alive.
-ghost use Rattle.std.specs.Prelude.{◌≡◌, ◌+◌, ◌*◌, ◌≤◌, ◌<◌, IfOk, length, take, drop};
-ghost use Rattle.argo_base.specs.Limits.{page_bytes};
+ghost use Rattle.std.specs.Prelude.{◌≡◌, ◌+◌, ◌≤◌, IfOk, IfSome, IfNone, length, take, drop};
+ghost use Rattle.argo_model.specs.declared.action.Outcome.TheVariants.{Bytes, Fault};
 ghost use Rattle.argo_model.specs.Rules.Act as acts;
 ghost use Rattle.argo_model.specs.Rules.Effects as effects;
-ghost use Rattle.guest_pages.specs.Rows.{row_bytes};
 
 use crate::home::{Home, home_at};
-use argo_base::{Bytes, DomId, NoMemory};
+use argo_base::{Bytes, DomId, NoMemory, Piece};
 use argo_model::Outcome;
 use guest_pages::Private;
 use ring_core::Ring;
@@ -53,28 +52,34 @@ impl Model for Live {
 }
 
 impl Live {
-    /// Fetches `n` bytes at an offset of a page.
-    pub(crate) fn fetch(
-        &self,
-        alloc: Global,
-        page: u64,
-        off: u32,
-        n: u32,
-    ) -> Result<Outcome, NoMemory>
-        requires { off + n ≤ 4096 }
-        ensures { IfOk result (λ o. o ≡ acts.fetch self.now page off n) }
+    /// Fetches a piece.
+    pub(crate) fn fetch(&self, alloc: Global, piece: Piece) -> Result<Outcome, NoMemory>
+        requires { piece.off + piece.n ≤ 4096 }
+        ensures { IfOk result
+            (λ o. o ≡ acts.fetch self.now piece.page piece.off piece.n) }
     {
-        if let Some(bytes) = self.private.read(page, off, n)? {
-            return Ok(Outcome::Bytes(bytes));
+        match self.shown(piece) {
+            Some(bytes) => Ok(Outcome::Bytes(Bytes::copy_of(alloc, bytes)?)),
+            None => Ok(Outcome::Fault),
         }
-        let Some(home) = home_at(self.homes.as_slice(), page) else {
-            return Ok(Outcome::Fault);
-        };
-        let Some(row) = self.rings.find_exact(home.key) else {
-            return Ok(Outcome::Fault);
-        };
-        let bytes = read(alloc, &row.value, home.place, off, n)?;
-        Ok(Outcome::Bytes(bytes))
+    }
+
+    /// The bytes of a piece, where its page is there.
+    pub(crate) fn shown(&self, piece: Piece) -> Option<&[u8]>
+        requires { piece.off + piece.n ≤ 4096 }
+        ensures some { IfSome result
+            (λ bytes. acts.fetch self.now piece.page piece.off piece.n ≡ Bytes bytes.now) }
+        ensures none { IfNone result
+            (acts.fetch self.now piece.page piece.off piece.n ≡ Fault) }
+    {
+        if let Some(page) = self.private.page(piece.page) {
+            return Some(part_of(page, piece));
+        }
+        let home = home_at(self.homes.as_slice(), piece.page)?;
+        let row = self.rings.find_exact(home.key)?;
+        let pages = row.value.row();
+        pages.count();
+        Some(part_of(pages.page(home.place as usize), piece))
     }
 
     /// Tells the flag, and clears it.
@@ -88,16 +93,12 @@ impl Live {
     }
 }
 
-// A copy of bytes in a page of a ring.
-fn read(alloc: Global, ring: &Ring, place: u32, off: u32, n: u32) -> Result<Bytes, NoMemory>
-    requires inside { place < length ring.now.row }
-    requires in_page { off + n ≤ 4096 }
-    ensures { IfOk result
-        (λ bytes. bytes ≡ take n (drop (page_bytes * place + off) (row_bytes ring.now.row))) }
+// The bytes of a piece in its page.
+fn part_of(page: &[u8], piece: Piece) -> &[u8]
+    requires { piece.off + piece.n ≤ length page.now }
+    ensures { result.now ≡ take piece.n (drop piece.off page.now) }
 {
-    let row = ring.row();
-    row.count();
-    let (_, rest) = row.page(place as usize).split_at(off as usize);
-    let (part, _) = rest.split_at(n as usize);
-    Ok(Bytes::copy_of(alloc, part)?)
+    let (_, rest) = page.split_at(piece.off as usize);
+    let (part, _) = rest.split_at(piece.n as usize);
+    part
 }

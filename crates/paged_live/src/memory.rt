@@ -3,7 +3,7 @@ ghost use Rattle.std.specs.Prelude.{◌≡◌, ◌*◌, IfOk, take, drop};
 ghost use Rattle.argo_base.specs.Limits.{page_bytes};
 
 use crate::live::Live;
-use argo_base::{Bytes, NoMemory, PAGE_BYTES};
+use argo_base::{Bytes, NoMemory, PAGE_BYTES, Piece};
 use argo_model::Outcome;
 use std::alloc::Global;
 
@@ -14,7 +14,12 @@ impl Live {
             (λ bytes. bytes ≡ take page_bytes (drop (page_bytes * page) self.now.bytes)) }
     {
         self.private.count();
-        match self.fetch(alloc, page as u64, 0, PAGE_BYTES)? {
+        let piece = Piece {
+            page: page as u64,
+            off: 0,
+            n: PAGE_BYTES,
+        };
+        match self.fetch(alloc, piece)? {
             Outcome::Bytes(bytes) => Ok(bytes),
             _ => Ok(Bytes::new(alloc)),
         }

@@ -9,10 +9,11 @@ ghost use Rattle.ring_core.specs.Held.{Becomes, IsSaid};
 ghost use Rattle.ring_core.specs.Offers as said;
 
 use argo_base::{DomId, Errno, NoMemory, RingKey};
-use argo_model::Outcome;
+use argo_model::{Load, Outcome};
 use live_domain::Offer;
 use ring_core::{Accept, Offer as RingOffer, Ring};
 use ring_table::Table;
+use std::mem;
 
 /// The key of the ring that a sender meets at a port; of none, where it meets none.
 pub(crate) fn match_key(rings: &Table<Ring>, port: u32, sender: DomId) -> RingKey
@@ -29,27 +30,23 @@ pub(crate) fn match_key(rings: &Table<Ring>, port: u32, sender: DomId) -> RingKe
 }
 
 /// Takes an offer to a ring.
-pub(crate) fn offer_to(ring: &mut Ring, sent: Offer) -> Result<Outcome, NoMemory>
-    requires { IsTrue (is_fit_load sent.load) }
+pub(crate) fn offer_to(ring: &mut Ring, sent: &mut Offer) -> Result<Outcome, NoMemory>
+    requires { IsTrue (is_fit_load sent.old.load) }
     ensures outcome { IfOk result (λ o. (owner : ℕ) →
-        IsSaid ring.old o (λ p. (deliver.offer p owner sent).outcome)) }
+        IsSaid ring.old o (λ p. (deliver.offer p owner sent.old).outcome)) }
     ensures left { OnOk result ((owner : ℕ) →
-        Becomes ring.old ring.new (λ p. after p (deliver.offer p owner sent))) }
+        Becomes ring.old ring.new (λ p. after p (deliver.offer p owner sent.old))) }
     ensures err { OnErr result (Becomes ring.old ring.new (λ p. p)) }
+    ensures err_sent { OnErr result (sent.new ≡ sent.old) }
     ensures still { StandsStill ring.old ring.new }
 {
     ring.row().count();
     ring.reserve_log()?;
-    let Offer {
-        sender,
-        port,
-        kind,
-        load,
-    } = sent;
+    let load = mem::replace(&mut sent.load, Load::Faulted(0));
     let accept = ring.accept(RingOffer {
-        src: sender,
-        port,
-        kind,
+        src: sent.sender,
+        port: sent.port,
+        kind: sent.kind,
         load,
     });
     ring.row().count();

@@ -2,8 +2,8 @@
 ghost use Rattle.argo_model.specs.Rules.State.{State as AnyState};
 
 use crate::mends::{keep_if, take_off};
-use argo_base::{DomId, Errno, NoMemory, RingKey};
-use argo_model::{Action, ClosedDomains, DomainLine, FinalDomains, Outcome};
+use argo_base::{DomId, Errno, NoMemory, Piece, RingId, RingKey};
+use argo_model::{Action, ClosedDomains, DomainLine, FinalDomains, Load, Outcome, Unseen};
 use domain_lists::DomainLists;
 use domains::{Domains, id_of};
 use live_domain::{KeyedRings, Offer, Registration};
@@ -58,6 +58,20 @@ impl<L: KeyedRings> DomainActs for ListedDomains<L> {
         Ok(outcome)
     }
 
+    fn seen(&self, dom: DomId, generation: u32, piece: Piece) -> Result<&[u8], Unseen> {
+        self.domains.seen(dom, generation, piece)
+    }
+
+    fn put(
+        &mut self,
+        caller: (DomId, u32),
+        page: u64,
+        off: u32,
+        bytes: &[u8],
+    ) -> Result<Outcome, NoMemory> {
+        self.domains.put(caller, page, off, bytes)
+    }
+
     fn register(
         &mut self,
         alloc: Global,
@@ -103,9 +117,11 @@ impl<L: KeyedRings> DomainActs for ListedDomains<L> {
         generation: u32,
         after: u64,
     ) -> Result<Outcome, NoMemory> {
-        let id = self.domains.next_ring(dom, after);
         let change = self.domains.sweep(alloc, dom, generation, after)?;
-        take_off(&mut self.waits, change.signals.as_slice(), &id);
+        if !change.signals.is_empty() {
+            let id = self.domains.next_ring(dom, after);
+            take_off(&mut self.waits, change.signals.as_slice(), &id);
+        }
         Ok(change.outcome)
     }
 
@@ -115,11 +131,11 @@ impl<L: KeyedRings> DomainActs for ListedDomains<L> {
         generation: u32,
         to: DomId,
         to_port: u32,
-        sent: Offer,
+        sent: &mut Offer,
     ) -> Result<Outcome, NoMemory> {
         let dom = sent.sender;
         let id = self.domains.met(to, to_port, dom);
-        if !id.partner.is_any() {
+        if !id.partner.is_any() || self.takes(&id, sent) {
             let outcome = self.domains.deliver(generation, to, to_port, sent)?;
             return Ok(outcome);
         }
@@ -173,5 +189,15 @@ impl<L: KeyedRings> DomainActs for ListedDomains<L> {
     fn into_finals(self, alloc: Global) -> Result<FinalDomains, NoMemory> {
         let ListedDomains { domains, .. } = self;
         domains.into_finals(alloc)
+    }
+}
+
+impl<L: KeyedRings> ListedDomains<L> {
+    // Whether a body has room in a ring, so that its sender is not noted there.
+    fn takes(&self, id: &RingId, sent: &Offer) -> bool {
+        match &sent.load {
+            Load::Body(body) => self.domains.has_room(id, body.len() as u32),
+            _ => false,
+        }
     }
 }

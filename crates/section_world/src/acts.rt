@@ -72,13 +72,13 @@ fn vcpu_act<D: DomainActs>(
             kind,
             load,
         } => {
-            let sent = Offer {
+            let mut sent = Offer {
                 sender: dom,
                 port,
                 kind,
                 load,
             };
-            domains.deliver(alloc, generation, to, to_port, sent)
+            domains.deliver(alloc, generation, to, to_port, &mut sent)
         }
         Action::Query { to, to_port, need } => domains.query(alloc, caller, to, to_port, need),
         Action::Destroy { .. } | Action::Reset { .. } | Action::Create { .. } => {

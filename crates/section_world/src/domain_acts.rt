@@ -1,7 +1,9 @@
 //! The domains of a world, with each act on them.
-ghost use Rattle.std.specs.Prelude.{◌≡◌, ◌^◌, IsTrue, IfOk, OnErr, map};
-ghost use Rattle.argo_model.specs.declared.action.Action.TheVariants.{Deliver, Query, Register, Sweep, Unregister};
+ghost use Rattle.std.specs.Prelude.{◌≡◌, ◌^◌, IsTrue, IfOk, IfErr, OnErr, map};
+ghost use Rattle.argo_model.specs.declared.action.Action.TheVariants.{Deliver, Put, Query, Register, Sweep, Unregister};
+ghost use Rattle.argo_model.specs.declared.action.Outcome.TheVariants.{Bytes};
 ghost use Rattle.argo_model.specs.declared.scripts.Actor.TheVariants.{Vcpu};
+ghost use Rattle.argo_model.specs.Rules.Access.{fetch_of, outcome_unseen};
 ghost use Rattle.argo_model.specs.Rules.Act.{act};
 ghost use Rattle.argo_model.specs.Rules.Destroy as ends;
 ghost use Rattle.argo_model.specs.Rules.Fit.{is_fit};
@@ -11,8 +13,8 @@ ghost use Rattle.argo_model.specs.Runs.Final.{final_domain};
 ghost use Rattle.section_world.specs.Acts.{caller_on, keeps_rings, registers};
 ghost use Rattle.section_world.specs.Young.{are_shown, IsYoung};
 
-use argo_base::{DomId, NoMemory, RingKey};
-use argo_model::{Action, ClosedDomains, DomainLine, FinalDomains, Outcome};
+use argo_base::{DomId, NoMemory, Piece, RingKey};
+use argo_model::{Action, ClosedDomains, DomainLine, FinalDomains, Outcome, Unseen};
 use live_domain::{Offer, Registration};
 use std::alloc::Global;
 
@@ -40,6 +42,30 @@ pub trait DomainActs: Sized + Drop {
         requires fit { IsTrue (is_fit action) }
         requires own { IsTrue (keeps_rings action) }
         ensures ok { IfOk result (λ o. act (Vcpu dom generation) action (state self.old)
+            ≡ record { outcome = o; state = state self.new }) }
+        ensures err { OnErr result (state self.new ≡ state self.old) };
+
+    /// The bytes of a piece of a caller.
+    fn seen(&self, dom: DomId, generation: u32, piece: Piece) -> Result<&[u8], Unseen>
+        requires { IsTrue (is_fit (fetch_of piece)) }
+        ensures bytes { IfOk result
+            (λ bytes. act (Vcpu dom generation) (fetch_of piece) (state self.now)
+            ≡ record { outcome = Bytes bytes.now; state = state self.now }) }
+        ensures unseen { IfErr result
+            (λ u. act (Vcpu dom generation) (fetch_of piece) (state self.now)
+            ≡ record { outcome = outcome_unseen u; state = state self.now }) };
+
+    /// A caller puts bytes into a page.
+    fn put(
+        &mut self,
+        caller: (DomId, u32),
+        page: u64,
+        off: u32,
+        bytes: &[u8],
+    ) -> Result<Outcome, NoMemory>
+        requires { IsTrue (is_fit (Put page off bytes.now)) }
+        ensures ok { IfOk result
+            (λ o. act (Vcpu caller.0 caller.1) (Put page off bytes.now) (state self.old)
             ≡ record { outcome = o; state = state self.new }) }
         ensures err { OnErr result (state self.new ≡ state self.old) };
 
@@ -82,20 +108,21 @@ pub trait DomainActs: Sized + Drop {
             ≡ record { outcome = o; state = state self.new }) }
         ensures err { OnErr result (state self.new ≡ state self.old) };
 
-    /// A caller sends from a port to a port of a domain.
+    /// A caller sends from a port to a port of a domain. The load is taken.
     fn deliver(
         &mut self,
         alloc: Global,
         generation: u32,
         to: DomId,
         to_port: u32,
-        sent: Offer,
+        sent: &mut Offer,
     ) -> Result<Outcome, NoMemory>
-        requires { IsTrue (is_fit (Deliver sent.port to to_port sent.kind sent.load)) }
-        ensures ok { IfOk result (λ o. act (Vcpu sent.sender generation)
-            (Deliver sent.port to to_port sent.kind sent.load) (state self.old)
+        requires { IsTrue (is_fit (Deliver sent.old.port to to_port sent.old.kind sent.old.load)) }
+        ensures ok { IfOk result (λ o. act (Vcpu sent.old.sender generation)
+            (Deliver sent.old.port to to_port sent.old.kind sent.old.load) (state self.old)
             ≡ record { outcome = o; state = state self.new }) }
-        ensures err { OnErr result (state self.new ≡ state self.old) };
+        ensures err { OnErr result (state self.new ≡ state self.old) }
+        ensures err_sent { OnErr result (sent.new ≡ sent.old) };
 
     /// A caller, of a domain and a generation, asks for room in the ring that it meets at a port of a domain.
     fn query(

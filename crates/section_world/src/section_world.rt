@@ -9,13 +9,15 @@ ghost use Rattle.section_world.specs.Sections.{IsSmall};
 
 use crate::DomainActs;
 use crate::acts::act;
-use argo_base::NoMemory;
+use argo_base::{NoMemory, Piece};
 use argo_model::{
-    Access, Action, Actor, ClosedDomains, FinalDomains, Outcome, Part, Scripts, SerialWorld,
-    TotalList, Totals,
+    Access, Action, Actor, Address, ClosedDomains, FinalDomains, Load, Outcome, Part, Scripts,
+    SerialWorld, TotalList, Totals, Unseen,
 };
+use live_domain::Offer;
 use std::alloc::Global;
 use std::marker::Model;
+use std::mem;
 
 /// The world of a script over its domains. It tells its state: contracts see that, who the sections are, and what each has done.
 #[derive(Drop)]
@@ -56,6 +58,57 @@ impl<D: DomainActs> Access for SectionWorld<D> {
         let outcome = act(&mut self.domains, self.alloc, self.actors[place], a)?;
         count(&mut self.totals[place], &outcome);
         Ok(outcome)
+    }
+
+    fn seen(&self, v: u32, piece: Piece) -> Result<&[u8], Unseen> {
+        match self.actors[v as usize] {
+            Actor::Vcpu(dom, generation) => self.domains.seen(dom, generation, piece),
+            Actor::Control => Err(Unseen::Gone),
+        }
+    }
+
+    fn count(&mut self, v: u32) {
+        self.totals[v as usize].steps += 1;
+    }
+
+    fn put(&mut self, v: u32, page: u64, off: u32, bytes: &[u8]) -> Result<Outcome, NoMemory> {
+        let place = v as usize;
+        let outcome = match self.actors[place] {
+            Actor::Vcpu(dom, generation) => {
+                self.domains.put((dom, generation), page, off, bytes)?
+            }
+            Actor::Control => Outcome::Gone,
+        };
+        self.totals[place].steps += 1;
+        Ok(outcome)
+    }
+
+    fn deliver(&mut self, v: u32, at: Address, load: &mut Load) -> Result<Outcome, NoMemory> {
+        let place = v as usize;
+        let Actor::Vcpu(dom, generation) = self.actors[place] else {
+            return Ok(Outcome::Gone);
+        };
+        let mut sent = Offer {
+            sender: dom,
+            port: at.port,
+            kind: at.kind,
+            load: mem::replace(load, Load::Faulted(0)),
+        };
+        let alloc = self.alloc;
+        let delivered = self
+            .domains
+            .deliver(alloc, generation, at.to, at.to_port, &mut sent);
+        match delivered {
+            Ok(outcome) => {
+                count(&mut self.totals[place], &outcome);
+                Ok(outcome)
+            }
+            Err(e) => {
+                let Offer { load: back, .. } = sent;
+                *load = back;
+                Err(e)
+            }
+        }
     }
 }
 

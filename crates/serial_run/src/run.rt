@@ -5,24 +5,31 @@ ghost use Rattle.serial_run.specs.Picks.{IsRunByPicks};
 
 use crate::picks::Picks;
 use argo_base::NoMemory;
-use argo_machine::Machine;
+use argo_machine::{Machine, copy_of_scripts};
 use argo_model::{Final, Scripts};
 use plain_world::PlainWorld;
 use std::alloc::Global;
 
 /// Runs a script by the picks of a seed: for 0 each section to its end in its turn, else one step of a section picked by a
-/// linear congruential generator.
+/// linear congruential generator. The script is copied.
 pub fn run_scripts(alloc: Global, seed: u64, scripts: &Scripts) -> Result<Final, NoMemory>
     ensures { IfOk result (λ shown. IsRunByPicks scripts.now seed shown) }
 {
+    run_taking(alloc, seed, copy_of_scripts(alloc, scripts)?)
+}
+
+/// As `run_scripts`, of a script that is given away: none of its lines is copied.
+pub fn run_taking(alloc: Global, seed: u64, scripts: Scripts) -> Result<Final, NoMemory>
+    ensures { IfOk result (λ shown. IsRunByPicks scripts seed shown) }
+{
     let count = scripts.parts.len();
-    let mut machine = Machine::<PlainWorld>::new(alloc, scripts)?;
+    let mut machine = Machine::<PlainWorld>::taking(alloc, scripts)?;
     let mut picks = Picks::new(seed);
     let mut vcpus = Vec::with_capacity(alloc, count)?;
     list_open(&machine, count as u32, &mut vcpus);
     'steps: while !vcpus.is_empty() {
         let v = vcpus[picks.next_place(vcpus.len())];
-        machine.step(v)?;
+        machine.go(v)?;
         if machine.finished(v) {
             list_open(&machine, count as u32, &mut vcpus);
         }

@@ -15,7 +15,7 @@ use Rattle.argo_model.specs.declared.action.Outcome.{Outcome}
 use Rattle.vcpu_machine.specs.declared.phase.Phase.TheVariants.{Reading}
 use Rattle.vcpu_machine.specs.declared.phase.Followed.TheVariants.{To}
 use Rattle.vcpu_machine.specs.declared.phase.Reader.TheVariants.{Send}
-use Rattle.vcpu_machine.specs.declared.reads.Address.{Address}
+use Rattle.argo_model.specs.declared.action.Address.{Address}
 use Rattle.vcpu_machine.specs.declared.reads.Gather.{Gather}
 use Rattle.vcpu_machine.specs.declared.reads.SendRead.TheVariants.{Body}
 use Rattle.argo_model.specs.Programs.Send.{gather, send_judged}

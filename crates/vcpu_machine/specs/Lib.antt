@@ -2,6 +2,7 @@ pub mod Calls
 pub mod Cursor
 pub mod Entries
 pub mod Followed
+pub mod Going
 pub mod Looking
 pub mod Notifying
 pub mod Phase

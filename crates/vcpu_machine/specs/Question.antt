@@ -12,7 +12,7 @@ use Rattle.argo_model.specs.Programs.Send.{say_accepted}
 use Rattle.argo_model.specs.Programs.Notify.{if_swept, sweep_rings, notify_entries, if_answered, answer_entries}
 use Rattle.argo_model.specs.Rules.Fit.{is_fit_load}
 use Rattle.vcpu_machine.specs.Registering.{register_on}
-use Rattle.vcpu_machine.specs.Sending.{delivered_to}
+use Rattle.argo_model.specs.Rules.Access.{delivered_to}
 use Rattle.vcpu_machine.specs.Entries.{entry_at, places_after, IsEntry, most_of_notify}
 
 -- the action that asks

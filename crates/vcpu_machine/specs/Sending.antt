@@ -7,11 +7,10 @@ use Rattle.argo_base.specs.Match.{is_wildcard}
 use Rattle.argo_abi.specs.declared.send_addr.SendAddr.{SendAddr}
 use Rattle.argo_base.specs.Iovs.{Iov, iovs_at, verdict_of, gathered_pieces}
 use Rattle.argo_base.specs.Limits.{longest_body}
-use Rattle.argo_model.specs.declared.action.Action.{Action}
-use Rattle.argo_model.specs.declared.action.Action.TheVariants.{Deliver}
+use Rattle.argo_model.specs.Rules.Access.{delivered_to}
 use Rattle.argo_model.specs.declared.action.Load.{Load}
 use Rattle.argo_model.specs.declared.action.Load.TheVariants.{Faulted, Refused as RefusedLoad}
-use Rattle.vcpu_machine.specs.declared.reads.Address.{Address}
+use Rattle.argo_model.specs.declared.action.Address.{Address}
 use Rattle.vcpu_machine.specs.declared.reads.Gather.{Gather}
 use Rattle.vcpu_machine.specs.declared.reads.SendArgs.{SendArgs}
 use Rattle.vcpu_machine.specs.declared.reads.SendRead.{SendRead}
@@ -26,10 +25,6 @@ clear_pads addr = (addr.src.pad == 0) && (addr.dst.pad == 0)
 -- the source names the caller, or the wildcard
 abbrev pub own_source : ℕ → SendAddr → Bool
 own_source caller addr = (addr.src.domain_id == caller) || is_wildcard addr.src.domain_id
-
--- the act that delivers a load to an address
-abbrev pub delivered_to : Address → Load → Action
-delivered_to a load = Deliver a.port a.to a.to_port a.kind load
 
 -- the load is delivered
 abbrev pub deliver_to : Address → Load → Rests

@@ -1,7 +1,8 @@
 //! The pieces of a range that is fetched.
 
-ghost use Rattle.std.specs.Prelude.{◌≡◌, ◌+◌, ◌-◌, ◌<◌, ◌≤◌, min, List, ℕ, [], length, IsTrue, vec_len, vec_capacity};
+ghost use Rattle.std.specs.Prelude.{◌≡◌, ◌+◌, ◌-◌, ◌<◌, ◌≤◌, min, List, ℕ, [], length, IsTrue, IfOk, IfErr, vec_len, vec_capacity};
 ghost use Rattle.vcpu_machine.specs.Cursor.{pieces_left, IsSound};
+ghost use Rattle.argo_model.specs.Rules.Access.{outcome_unseen};
 ghost use Rattle.argo_model.specs.Rules.Fit.{is_fit};
 ghost use Rattle.argo_model.specs.Programs.Asks.{Do, Rests};
 ghost use Rattle.vcpu_machine.specs.Ranges.{FetchesFirst, HasRoomFor, GivesFirst};
@@ -12,7 +13,7 @@ ghost use Rattle.vcpu_machine.specs.Followed.{Fetches};
 use crate::cursor::Cursor;
 use crate::phase::{Followed, Reader};
 use crate::ranges::{Moved, fetch_moved};
-use argo_model::{Action, Outcome, Reply};
+use argo_model::{Action, Outcome, Reply, Unseen};
 use std::alloc::Global;
 use std::mem;
 
@@ -56,5 +57,41 @@ pub(crate) fn fetched(
             Some(reader.failed())
         }
         Moved::Ended => Some(Followed::Over(Reply::Gone)),
+    }
+}
+
+/// Where a line goes that fetches, with the bytes of the first piece; nowhere while others are to come.
+pub(crate) fn read_on(
+    alloc: Global,
+    rest: &mut Cursor,
+    got: &mut Vec<u8>,
+    reader: &mut Reader,
+    seen: Result<&[u8], Unseen>,
+) -> Option<Followed>
+    requires at_phase { IsReading rest.old (length got.old.items) reader.old }
+    requires room { HasRoomFor rest.old got.old }
+    requires first { IfOk seen (λ bytes. GivesFirst rest.old (Outcome.Bytes bytes.now)) }
+    ensures bytes { IfOk seen (λ bytes. Fetches rest.old got.old reader.old
+        (Outcome.Bytes bytes.now) result rest.new got.new reader.new) }
+    ensures unseen { IfErr seen (λ u. Fetches rest.old got.old reader.old
+        (outcome_unseen u) result rest.new got.new reader.new) }
+{
+    match seen {
+        Ok(bytes) => {
+            got.extend_from_slice(bytes).unwrap();
+            let (_, later) = rest.split_first();
+            *rest = later;
+            if later.left != 0 {
+                return None;
+            }
+            let reader = mem::replace(reader, Reader::Show);
+            let got = mem::replace(got, Vec::new(alloc));
+            Some(reader.used(alloc, got))
+        }
+        Err(Unseen::Fault) => {
+            let reader = mem::replace(reader, Reader::Show);
+            Some(reader.failed())
+        }
+        Err(Unseen::Gone) => Some(Followed::Over(Reply::Gone)),
     }
 }

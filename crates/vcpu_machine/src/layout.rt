@@ -111,3 +111,16 @@ pub(crate) fn answer_text(alloc: Global, answer: Answer) -> Result<Vec<u8>, NoMe
     bytes.extend_from_slice(&answer.most.to_le_bytes())?;
     Ok(bytes)
 }
+
+/// The 12 bytes in which notify answers of one ring.
+pub(crate) fn answer_bytes(answer: Answer) -> [u8; 12]
+    ensures { result ≡ answer_bytes answer.flags 0 answer.need answer.most }
+{
+    let flags = answer.flags.to_le_bytes();
+    let need = answer.need.to_le_bytes();
+    let most = answer.most.to_le_bytes();
+    [
+        flags[0], flags[1], 0, 0, need[0], need[1], need[2], need[3], most[0], most[1], most[2],
+        most[3],
+    ]
+}

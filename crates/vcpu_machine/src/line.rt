@@ -1,18 +1,19 @@
 //! A line from its first action to its reply.
 
-ghost use Rattle.std.specs.Prelude.{◌≡◌, ◌<◌, ◌≤◌, List, [], ◌∷◌, IsTrue, IfOk, IsOk, OnOk, IfNone};
+ghost use Rattle.std.specs.Prelude.{◌≡◌, ◌<◌, ◌≤◌, List, [], ◌∷◌, IsTrue, IfOk, IsOk, OnOk, OnErr, IfNone};
+ghost use Rattle.argo_model.specs.Rules.Access.{has_steps_left};
 ghost use Rattle.argo_model.specs.Rules.Fit.{is_fit};
 ghost use Rattle.argo_model.specs.Programs.Program.{Do};
 
 use crate::call::{Call, caller_of};
 use crate::cursor::Cursor;
-use crate::fetch::{fetch_first, fetched};
+use crate::fetch::{fetch_first, fetched, read_on};
 use crate::looking::looked;
 use crate::phase::{Followed, Phase, Question, Reader, Text};
 use crate::reading::reading;
-use crate::receiving::received;
+use crate::receiving::{receive, received};
 use argo_base::NoMemory;
-use argo_model::{Action, Actor, Line, Outcome, Reply};
+use argo_model::{Access, Action, Actor, Line, Outcome, Reply};
 use guest_lib::Recv;
 use std::alloc::Global;
 
@@ -21,6 +22,7 @@ impl Phase {
     ghost use Rattle.argo_model.specs.Programs.Asks.{CanFollow};
     ghost use Rattle.vcpu_machine.specs.Phase.{rest_of, takes_none, IsAtPhase, HasRoom, GoesOnAlike, phase_left, Feeds, StandsForAll, is_line_for};
     ghost use Rattle.vcpu_machine.specs.Followed.{Follows};
+    ghost use Rattle.vcpu_machine.specs.Going.{MayGo, Goes};
 
     /// The phase at which a line of an actor begins.
     pub(crate) fn start(alloc: Global, actor: Actor, line: &Line) -> Phase
@@ -72,6 +74,44 @@ impl Phase {
             Phase::Asking(question) => question.action(alloc),
             Phase::Looking { .. } => Ok(Action::Look),
             Phase::Receiving(recv) => recv.next(),
+            Phase::Ended => unreachable!(),
+        }
+    }
+
+    /// Performs the next action in a world: where the line then goes; nowhere while it stays at the phase.
+    pub(crate) fn go<A: Access>(
+        &mut self,
+        alloc: Global,
+        line: &Line,
+        v: u32,
+        a: &mut A,
+    ) -> Result<Option<Followed>, NoMemory>
+        requires at_phase { IsAtPhase line.now self.old }
+        requires may { MayGo (A.actors a.old) v (rest_of line.now self.old []) }
+        requires few { IsTrue (has_steps_left (A.totals a.old) v) }
+        ensures ok { IfOk result (λ followed. Goes (A.actors a.old) v line.now self.old
+            (A.told a.old) (A.totals a.old) followed self.new (A.told a.new) (A.totals a.new)) }
+        ensures err { OnErr result (GoesOnAlike line.now self.old self.new) }
+        ensures err_room { OnErr result (HasRoom self.old → HasRoom self.new) }
+        ensures actors { A.actors a.new ≡ A.actors a.old }
+        ensures err_told { OnErr result (A.told a.new ≡ A.told a.old) }
+        ensures err_totals { OnErr result (A.totals a.new ≡ A.totals a.old) }
+    {
+        match self {
+            Phase::Reading { rest, got, reader } => {
+                got.reserve(reader.room(rest.left))?;
+                let (piece, _) = rest.split_first();
+                let followed = read_on(alloc, rest, got, reader, a.seen(v, piece));
+                a.count(v);
+                Ok(followed)
+            }
+            Phase::Writing { rest, text } => text.go(alloc, line, rest, v, a),
+            Phase::Asking(question) => Ok(Some(question.go(alloc, v, a)?)),
+            Phase::Looking { later } => {
+                let outcome = a.act(v, Action::Look)?;
+                Ok(looked(later, &outcome))
+            }
+            Phase::Receiving(recv) => receive(recv, v, a),
             Phase::Ended => unreachable!(),
         }
     }

@@ -1,9 +1,9 @@
 //! How far a line is, in place of all the outcomes that it has had.
 
 use crate::cursor::Cursor;
-use crate::reads::{Address, Entry, NewRing, NotifyRead, RegisterRead, SendRead};
+use crate::reads::{Entry, NewRing, NotifyRead, RegisterRead, SendRead};
 use argo_base::{DomId, Errno};
-use argo_model::{Answer, Load, Reply};
+use argo_model::{Address, Answer, Load, Reply};
 use guest_lib::Recv;
 
 /// What a range of guest memory is fetched for.

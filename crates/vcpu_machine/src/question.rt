@@ -1,6 +1,7 @@
 //! The single actions of lines, and what follows them.
 
-ghost use Rattle.std.specs.Prelude.{◌≡◌, ◌+◌, IfOk, IsOk, IsTrue};
+ghost use Rattle.std.specs.Prelude.{◌≡◌, ◌+◌, IfOk, IsOk, OnErr, IsTrue};
+ghost use Rattle.argo_model.specs.Rules.Access.{is_fit_at, has_steps_left};
 ghost use Rattle.argo_model.specs.Rules.Fit.{is_fit};
 ghost use Rattle.argo_model.specs.Programs.Asks.{Do, say_done};
 ghost use Rattle.argo_model.specs.Programs.Send.{say_accepted};
@@ -12,13 +13,15 @@ use crate::layout::read_numbers;
 use crate::notify;
 use crate::phase::{Followed, Phase, Question};
 use crate::reading::refusal;
+use crate::send::delivery;
 use argo_base::{Bytes, NoMemory, slots};
-use argo_model::{Action, Load, Outcome, Reply};
+use argo_model::{Access, Action, Load, Outcome, Reply};
 use std::alloc::Global;
 
 impl Question {
     ghost use Rattle.vcpu_machine.specs.Question.{action_of, answered_by, IsQuestion, most_after_answer};
     ghost use Rattle.vcpu_machine.specs.Followed.{AskFollows};
+    ghost use Rattle.vcpu_machine.specs.Going.{Asks};
     ghost use Rattle.vcpu_machine.specs.Phase.{takes_none};
 
     /// The action, with copies of what it takes.
@@ -43,7 +46,7 @@ impl Question {
             }
             Question::Deliver { address, load } => {
                 let load = copy_of(alloc, load)?;
-                Ok(address.deliver(load))
+                Ok(delivery(address, load))
             }
             Question::Sweep { after, .. } => Ok(Action::Sweep { after: *after }),
             Question::Query {
@@ -68,6 +71,35 @@ impl Question {
             Outcome::Gone => Followed::Over(Reply::Gone),
             _ => self.answered(alloc, outcome),
         }
+    }
+
+    /// Asks in a world: where the line then goes.
+    pub(crate) fn go<A: Access>(
+        &mut self,
+        alloc: Global,
+        v: u32,
+        a: &mut A,
+    ) -> Result<Followed, NoMemory>
+        requires question { IsQuestion self.old }
+        requires may { IsTrue (is_fit_at (A.actors a.old) v (action_of self.old)) }
+        requires few { IsTrue (has_steps_left (A.totals a.old) v) }
+        ensures ok { IfOk result (λ followed. Asks (A.actors a.old) v self.old
+            (A.told a.old) (A.totals a.old) followed (A.told a.new) (A.totals a.new)) }
+        ensures err { OnErr result (self.new ≡ self.old) }
+        ensures actors { A.actors a.new ≡ A.actors a.old }
+        ensures err_told { OnErr result (A.told a.new ≡ A.told a.old) }
+        ensures err_totals { OnErr result (A.totals a.new ≡ A.totals a.old) }
+    {
+        if let Question::Deliver { address, load } = self {
+            let outcome = a.deliver(v, *address, load)?;
+            return Ok(match outcome {
+                Outcome::Gone => Followed::Over(Reply::Gone),
+                _ => delivered(&outcome),
+            });
+        }
+        let action = self.action(alloc)?;
+        let outcome = a.act(v, action)?;
+        Ok(self.asked(alloc, &outcome))
     }
 
     // Where the line goes with an outcome other than `Gone`.

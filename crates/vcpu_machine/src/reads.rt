@@ -1,6 +1,7 @@
 //! What the fetches of hypercalls are for.
 
 use argo_base::DomId;
+use argo_model::Address;
 
 /// The buffers that one sendv takes at most.
 pub(crate) const MOST_IOVS: usize = 8;
@@ -24,15 +25,6 @@ pub(crate) enum RegisterRead {
     Head { list: u64, count: u64, flags: u64 },
     /// The page list of a ring.
     Pages(NewRing),
-}
-
-/// Where a message goes: from a port of the caller to a port of a domain, and its type.
-#[derive(Clone, Copy)]
-pub(crate) struct Address {
-    pub(crate) port: u32,
-    pub(crate) to: DomId,
-    pub(crate) to_port: u32,
-    pub(crate) kind: u32,
 }
 
 /// What is left of a gather after the buffer that is being fetched: of `count` buffers, those from the place `next` on.

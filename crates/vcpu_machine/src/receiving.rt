@@ -7,8 +7,8 @@ ghost use Rattle.guest_lib.specs.Receiving.{IsUnderWay, CanFeed, IsShort, ended}
 ghost use Rattle.vcpu_machine.specs.Followed.{ReceiveFollows};
 
 use crate::phase::Followed;
-use argo_base::Bytes;
-use argo_model::{Outcome, Reply};
+use argo_base::{Bytes, NoMemory, Piece};
+use argo_model::{Access, Action, Outcome, Reply};
 use guest_lib::{Received, Recv};
 
 /// The first bytes of a body, which a reply shows.
@@ -24,6 +24,32 @@ pub(crate) fn received(recv: &mut Recv, outcome: &Outcome) -> Option<Followed>
     match recv.feed_by(outcome) {
         None => None,
         Some(found) => Some(Followed::Over(reply_of(found))),
+    }
+}
+
+/// Performs the library's next action in a world: where the line then goes; nowhere while the library goes on.
+pub(crate) fn receive<A: Access>(
+    recv: &mut Recv,
+    v: u32,
+    a: &mut A,
+) -> Result<Option<Followed>, NoMemory> {
+    if let Some((page, word)) = recv.next_put() {
+        let outcome = a.put(v, page, 0, &word)?;
+        return Ok(received(recv, &outcome));
+    }
+    match recv.next()? {
+        Action::Fetch { page, off, n } => {
+            let found = recv.hear(a.seen(v, Piece { page, off, n }));
+            a.count(v);
+            match found {
+                None => Ok(None),
+                Some(found) => Ok(Some(Followed::Over(reply_of(found)))),
+            }
+        }
+        action => {
+            let outcome = a.act(v, action)?;
+            Ok(received(recv, &outcome))
+        }
     }
 }
 

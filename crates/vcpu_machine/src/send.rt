@@ -2,6 +2,7 @@
 
 ghost use Rattle.std.specs.Prelude.{◌≡◌, ◌+◌, ◌*◌, ◌≤◌, length, take, IsTrue};
 ghost use Rattle.argo_base.specs.Iovs.{iov_at, iovs_at};
+ghost use Rattle.argo_model.specs.Rules.Access.{delivered_to};
 ghost use Rattle.argo_model.specs.Rules.Fit.{is_fit_load};
 ghost use Rattle.vcpu_machine.specs.Sending.{clear_pads, own_source, head_of_send, deliver_to, judge_iovs, IsNextBuffer};
 ghost use Rattle.vcpu_machine.specs.Followed.{Leads};
@@ -10,26 +11,22 @@ use crate::cursor::Cursor;
 use crate::layout::{iov, send_addr};
 use crate::phase::{Followed, Phase, Question, Reader};
 use crate::reading::{reading_into, refusal};
-use crate::reads::{Address, Gather, MOST_IOVS, SendArgs, SendRead};
+use crate::reads::{Gather, MOST_IOVS, SendArgs, SendRead};
 use argo_abi::{Iov, SendAddr};
 use argo_base::{Bytes, DomId, Errno};
-use argo_model::{Action, Load};
+use argo_model::{Action, Address, Load};
 use std::alloc::Global;
 
-impl Address {
-    ghost use Rattle.vcpu_machine.specs.Sending.{delivered_to};
-
-    /// The act that delivers a load there.
-    pub(crate) fn deliver(&self, load: Load) -> Action
-        ensures { result ≡ delivered_to self.now load }
-    {
-        Action::Deliver {
-            port: self.port,
-            to: self.to,
-            to_port: self.to_port,
-            kind: self.kind,
-            load,
-        }
+/// The act that delivers a load there.
+pub(crate) fn delivery(at: &Address, load: Load) -> Action
+    ensures { result ≡ delivered_to at.now load }
+{
+    Action::Deliver {
+        port: at.port,
+        to: at.to,
+        to_port: at.to_port,
+        kind: at.kind,
+        load,
     }
 }
 

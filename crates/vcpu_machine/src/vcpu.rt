@@ -9,7 +9,7 @@ ghost use Rattle.vcpu_machine.specs.Phase.{takes_none};
 ghost use Rattle.vcpu_machine.specs.Vcpu.{ahead, left_of, Begins, Begun, GoesOn, Fed, TakesTurn, TakesStep, CountsIn};
 
 use crate::copies::copy_of_part;
-use crate::phase::Phase;
+use crate::phase::{Followed, Phase};
 use crate::short::short_of;
 use argo_base::NoMemory;
 use argo_model::{Access, Action, Outcome, Part, Reply, Short};
@@ -150,6 +150,37 @@ impl Vcpu {
             Err(e) => {
                 self.ready = ready;
                 Err(e)
+            }
+        }
+    }
+
+    /// As `turn`, of whose outcome nothing is wanted but the reply.
+    pub fn go<A: Access>(&mut self, v: u32, a: &mut A) -> Result<Option<Reply>, NoMemory>
+        requires unfinished { self.old.done < length self.old.part.lines }
+        requires section { slice_get (A.actors a.old) v ≡ Some self.old.part.actor }
+        requires few { IsTrue (has_steps_left (A.totals a.old) v) }
+        ensures ok { IfOk result (λ reply. (o : Outcome)
+            × TakesTurn (A.told a.old) self.old o reply (A.told a.new) self.new
+            × (A.totals a.new ≡ counted_at (A.totals a.old) v o)) }
+        ensures actors { A.actors a.new ≡ A.actors a.old }
+        ensures err { OnErr result (GoesOn self.old self.new) }
+        ensures err_ready { OnErr result (self.new.ready ≡ self.old.ready) }
+        ensures err_told { OnErr result (A.told a.new ≡ A.told a.old) }
+        ensures err_totals { OnErr result (A.totals a.new ≡ A.totals a.old) }
+    {
+        let line = self.part.lines.get(self.done as usize);
+        let followed = self.phase.go(self.alloc, line, v, a)?;
+        self.ready = false;
+        match followed {
+            None => Ok(None),
+            Some(Followed::To(phase)) => {
+                self.phase = phase;
+                Ok(None)
+            }
+            Some(Followed::Over(reply)) => {
+                self.done += 1;
+                self.phase = phase_at(self.alloc, &self.part, self.done);
+                Ok(Some(reply))
             }
         }
     }

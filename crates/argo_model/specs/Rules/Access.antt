@@ -1,7 +1,14 @@
 -- What an access to a world shows of an action of a section.
 use Rattle.std.specs.Prelude.{◌≡◌, ℕ, ◌^◌, Bool, false, nat_lt, List, slice_get, slice_set, sum_by, Option, Some, None}
 use Rattle.argo_model.specs.declared.action.Action.{Action}
+use Rattle.argo_model.specs.declared.action.Action.TheVariants.{Fetch, Deliver}
+use Rattle.argo_model.specs.declared.action.Address.{Address}
+use Rattle.argo_model.specs.declared.action.Load.{Load}
 use Rattle.argo_model.specs.declared.action.Outcome.{Outcome}
+use Rattle.argo_model.specs.declared.action.Outcome.TheVariants.{Fault as NoPage, Gone as NoCaller}
+use Rattle.argo_model.specs.declared.action.Unseen.{Unseen}
+use Rattle.argo_model.specs.declared.action.Unseen.TheVariants.{Fault, Gone}
+use Rattle.argo_base.specs.declared.piece.Piece.{Piece}
 use Rattle.argo_model.specs.declared.scripts.Actor.{Actor}
 use Rattle.argo_model.specs.declared.closing.Totals.{Totals}
 use Rattle.argo_model.specs.Rules.Act.{act}
@@ -49,3 +56,16 @@ counted_at ts v o = counted_of ts v o (slice_get ts v)
 -- the steps of all sections
 abbrev pub steps_of : List Totals → ℕ
 steps_of totals = sum_by (λ t. t.steps) totals
+
+-- the fetch of a piece
+abbrev pub fetch_of : Piece → Action
+fetch_of p = Fetch p.page p.off p.n
+
+-- the outcome of a fetch that shows no bytes
+abbrev pub outcome_unseen : Unseen → Outcome
+outcome_unseen Fault = NoPage
+outcome_unseen Gone = NoCaller
+
+-- the act that delivers a load to an address
+abbrev pub delivered_to : Address → Load → Action
+delivered_to a load = Deliver a.port a.to a.to_port a.kind load

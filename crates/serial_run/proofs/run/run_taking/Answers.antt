@@ -7,11 +7,11 @@ use Rattle.serial_run.specs.Picks.{open_sections, EachIsPick}
 use Rattle.serial_run.proofs.PickLaws.{all_finished, picked-open, one-more, number-turned, pick-made, ready-of, zero-where, none-left, open-where}
 use Rattle.serial_run.proofs.OpenLaws.{still_open}
 use Rattle.argo_machine.proofs.RunLaws.{few_sections}
-use Rattle.serial_run.proofs.run.run_scripts.Goals as goal
+use Rattle.serial_run.proofs.run.run_taking.Goals as goal
 
 pub steps-init : goal.steps-init
 steps-init c =
-    let s = c.args.scripts.now in
+    let s = c.args.scripts in
     let seed = c.args.seed in
     let m = c.in_ok-machine.machine in
     let at = c.in_ok-machine.ensures in
@@ -28,7 +28,7 @@ steps-init c =
 
 pub step-requires : goal.step-requires
 step-requires c =
-    let s = c.args.scripts.now in
+    let s = c.args.scripts in
     let seed = c.args.seed in
     let before = c.steps.machine.schedule in
     let stood = c.steps.invariant in
@@ -41,7 +41,7 @@ step-requires c =
 
 pub steps-preserved-then-finished : goal.steps-preserved-then-finished
 steps-preserved-then-finished c =
-    let s = c.args.scripts.now in
+    let s = c.args.scripts in
     let seed = c.args.seed in
     let before = c.steps.machine.schedule in
     let stood = c.steps.invariant in
@@ -66,7 +66,7 @@ steps-preserved-then-finished c =
 
 pub steps-preserved : goal.steps-preserved
 steps-preserved c =
-    let s = c.args.scripts.now in
+    let s = c.args.scripts in
     let seed = c.args.seed in
     let before = c.steps.machine.schedule in
     let stood = c.steps.invariant in
@@ -100,7 +100,7 @@ steps-preserved c =
 
 pub finish-requires : goal.finish-requires
 finish-requires c =
-    let s = c.args.scripts.now in
+    let s = c.args.scripts in
     let schedule = c.steps.machine.schedule in
     let stood = c.steps.invariant in
     let none : length c.steps.vcpus.items ≡ 0 = sym c.steps.vcpus.ok.0 ∙ zero-where c.steps.vcpus.len c.steps-test.ensures in
