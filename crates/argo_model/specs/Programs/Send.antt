@@ -1,5 +1,5 @@
 -- The hypercall sendv.
-use Rattle.std.specs.Prelude.{ℕ, ◌*◌, ◌^◌, Bool, ◌&&◌, ◌||◌, not, ◌==◌, nat_lt, nat_le, List, [], ◌∷◌, ◌++◌, pos, Result, Ok, Err}
+use Rattle.std.specs.Prelude.{ℕ, ◌*◌, ◌^◌, Bool, ◌&&◌, ◌||◌, not, ◌==◌, nat_lt, nat_le, List, [], pos, Result, Ok, Err}
 use Rattle.argo_base.specs.declared.errno.Errno.{Errno}
 use Rattle.argo_base.specs.declared.errno.Errno.TheVariants.{Inval, Perm}
 use Rattle.argo_base.specs.declared.piece.Piece.{Piece}
