@@ -38,14 +38,6 @@ impl<L: KeyedRings> Domains<L> {
         }
     }
 
-    /// Whether a body of so many bytes fits into the ring now.
-    pub fn has_room(&self, id: &RingId, size: u32) -> bool {
-        match self.live(id.owner) {
-            Some(live) => live.has_room(id.key(), size),
-            None => false,
-        }
-    }
-
     /// The domains that wait on the ring, each with the size that it waits for.
     pub fn noted(&self, id: &RingId) -> &[(DomId, u32)]
         ensures { result.now ≡ noted_on (ring_at self.now id.now) }

@@ -18,8 +18,8 @@ impl<L: LiveDomain> Domains<L> {
         ensures { IfOk result (λ closed. closed ≡ closed_domains self.now) }
     {
         let mut closed = ClosedDomains::new(alloc);
-        for row in self.domains.rows() {
-            closed.push(domain_of(alloc, row.id, &row.domain)?)?;
+        for (id, domain) in &self.domains {
+            closed.push(domain_of(alloc, *id, domain)?)?;
         }
         Ok(closed)
     }

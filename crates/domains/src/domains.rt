@@ -11,17 +11,17 @@ ghost use Rattle.section_world.specs.Acts.{caller_on};
 ghost use Rattle.section_world.specs.Young.{IsYoung};
 
 use crate::domain::Domain;
-use crate::domain_map::DomainMap;
 use argo_base::{DomId, Errno, NoMemory};
 use argo_model::{DomainLine, Outcome};
 use live_domain::{LiveDomain, NO_ANSWER, Offer};
 use std::alloc::Global;
+use std::collections::BTreeMap;
 use std::marker::Model;
 
 /// The domains as they stand. Contracts see the abstract state.
 #[derive(Drop)]
 pub struct Domains<L: LiveDomain> {
-    pub(crate) domains: DomainMap<L>,
+    pub(crate) domains: BTreeMap<DomId, Domain<L>>,
 }
 
 impl<L: LiveDomain> Model for Domains<L> {
@@ -29,7 +29,7 @@ impl<L: LiveDomain> Model for Domains<L> {
 
     ghost Value = { State };
 
-    ghost view = { λ w. w.domains };
+    ghost view = { λ w. w.domains.entries };
 }
 
 impl<L: LiveDomain> Domains<L> {
@@ -37,9 +37,9 @@ impl<L: LiveDomain> Domains<L> {
     pub fn new(alloc: Global, lines: &[DomainLine]) -> Result<Domains<L>, NoMemory>
         ensures { IfOk result (λ w. w ≡ state.start_state lines.now) }
     {
-        let mut domains = DomainMap::new(alloc);
+        let mut domains = BTreeMap::new(alloc);
         for line in lines {
-            domains.push(line.id, fresh(alloc, line)?)?;
+            domains.insert(line.id, fresh(alloc, line)?)?;
         }
         Ok(Domains { domains })
     }

@@ -13,9 +13,10 @@ impl<L: LiveDomain> Domains<L> {
     pub fn forget(&mut self, dom: DomId)
         ensures { self.new ≡ ends.forget self.old dom }
     {
-        for row in self.domains.rows_mut().iter_mut() {
-            row.domain.forget(dom);
-        }
+        self.domains.retain(|_, domain| {
+            domain.forget(dom);
+            true
+        });
     }
 
     /// Ends one domain, where it is there.

@@ -5,7 +5,6 @@ ghost use Rattle.argo_model.specs.Runs.Final.{final_domain, final_life};
 ghost use Rattle.section_world.specs.Young.{are_shown};
 
 use crate::domain::Domain;
-use crate::domain_map::Row;
 use crate::domains::Domains;
 use argo_base::{DomId, NoMemory};
 use argo_model::{FinalDomain, FinalDomains, FinalRings};
@@ -18,10 +17,9 @@ impl<L: LiveDomain> Domains<L> {
         requires { IsTrue (are_shown self) }
         ensures { IfOk result (λ finals. finals ≡ map final_domain self) }
     {
-        let Domains { domains } = self;
+        let Domains { mut domains } = self;
         let mut finals = FinalDomains::new(alloc);
-        for row in domains.into_rows() {
-            let Row { id, domain } = row;
+        while let Some((id, domain)) = domains.pop_first() {
             finals.push(domain_of(alloc, id, domain)?)?;
         }
         Ok(finals)

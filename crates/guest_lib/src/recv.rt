@@ -70,13 +70,6 @@ impl Recv {
         Ok(action)
     }
 
-    /// The put that is next, where one is: the page whose first bytes it is of, and the word. It takes no memory, and is asked for then.
-    pub fn next_put(&mut self) -> Option<(u64, [u8; 4])> {
-        let word = self.stage.word()?;
-        self.ready = true;
-        Some((u64::from(self.ring.page), word.to_le_bytes()))
-    }
-
     /// Takes the outcome of the action that `next` gave, and answers what the recv came to, where it has come to its end. It takes
     /// no memory.
     pub fn feed(&mut self, outcome: Outcome) -> Option<Received>

@@ -41,14 +41,6 @@ impl Stage {
         }
     }
 
-    /// The rx word, where it is to be put.
-    pub(crate) fn word(&self) -> Option<u32> {
-        match self {
-            Stage::Word { word, .. } => Some(*word),
-            _ => None,
-        }
-    }
-
     /// Goes on with the bytes of a fetch, or answers what the recv came to.
     pub(crate) fn hear(&mut self, alloc: Global, ring: OwnRing, bytes: &[u8]) -> Option<Received>
         requires ready { IsStage ring.len true self.old }

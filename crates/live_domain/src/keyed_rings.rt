@@ -36,9 +36,6 @@ pub trait KeyedRings: LiveDomain {
     fn noted(&self, key: RingKey) -> &[(DomId, u32)]
         ensures { result.now ≡ noted_on (rings.own_ring (Self.LiveDomain.live self.now) key) };
 
-    /// Whether a body of so many bytes fits into the ring of the key now, where one stands.
-    fn has_room(&self, key: RingKey, size: u32) -> bool;
-
     /// Ends the ring of the key, where one stands.
     fn end_ring(&mut self, key: RingKey)
         ensures { Self.LiveDomain.live self.new

@@ -39,13 +39,6 @@ impl KeyedRings for Live {
         row.value.notices().as_slice()
     }
 
-    fn has_room(&self, key: RingKey, size: u32) -> bool {
-        let Some(row) = self.rings.find_exact(key) else {
-            return false;
-        };
-        row.value.has_room(size)
-    }
-
     fn end_ring(&mut self, key: RingKey) {
         self.take_ring(key);
     }

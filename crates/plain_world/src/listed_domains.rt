@@ -2,8 +2,8 @@
 ghost use Rattle.argo_model.specs.Rules.State.{State as AnyState};
 
 use crate::mends::{keep_if, take_off};
-use argo_base::{DomId, Errno, NoMemory, Piece, RingId, RingKey};
-use argo_model::{Action, ClosedDomains, DomainLine, FinalDomains, Load, Outcome, Unseen};
+use argo_base::{DomId, Errno, NoMemory, Piece, RingKey};
+use argo_model::{Action, ClosedDomains, DomainLine, FinalDomains, Outcome, Unseen};
 use domain_lists::DomainLists;
 use domains::{Domains, id_of};
 use live_domain::{KeyedRings, Offer, Registration};
@@ -117,11 +117,9 @@ impl<L: KeyedRings> DomainActs for ListedDomains<L> {
         generation: u32,
         after: u64,
     ) -> Result<Outcome, NoMemory> {
+        let id = self.domains.next_ring(dom, after);
         let change = self.domains.sweep(alloc, dom, generation, after)?;
-        if !change.signals.is_empty() {
-            let id = self.domains.next_ring(dom, after);
-            take_off(&mut self.waits, change.signals.as_slice(), &id);
-        }
+        take_off(&mut self.waits, change.signals.as_slice(), &id);
         Ok(change.outcome)
     }
 
@@ -135,7 +133,7 @@ impl<L: KeyedRings> DomainActs for ListedDomains<L> {
     ) -> Result<Outcome, NoMemory> {
         let dom = sent.sender;
         let id = self.domains.met(to, to_port, dom);
-        if !id.partner.is_any() || self.takes(&id, sent) {
+        if !id.partner.is_any() {
             let outcome = self.domains.deliver(generation, to, to_port, sent)?;
             return Ok(outcome);
         }
@@ -189,15 +187,5 @@ impl<L: KeyedRings> DomainActs for ListedDomains<L> {
     fn into_finals(self, alloc: Global) -> Result<FinalDomains, NoMemory> {
         let ListedDomains { domains, .. } = self;
         domains.into_finals(alloc)
-    }
-}
-
-impl<L: KeyedRings> ListedDomains<L> {
-    // Whether a body has room in a ring, so that its sender is not noted there.
-    fn takes(&self, id: &RingId, sent: &Offer) -> bool {
-        match &sent.load {
-            Load::Body(body) => self.domains.has_room(id, body.len() as u32),
-            _ => false,
-        }
     }
 }

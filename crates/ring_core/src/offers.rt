@@ -59,7 +59,7 @@ impl Ring {
     }
 
     // Whether a body of `size` bytes can fit, and does now.
-    pub fn has_room(&self, size: u32) -> bool
+    fn has_room(&self, size: u32) -> bool
         ensures { result ≡ has_room_for (paged 0 self.now) size }
     {
         !slots::too_big(self.len, size) && slots::fits_into(self.free(), size)

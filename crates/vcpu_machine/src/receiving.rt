@@ -33,10 +33,6 @@ pub(crate) fn receive<A: Access>(
     v: u32,
     a: &mut A,
 ) -> Result<Option<Followed>, NoMemory> {
-    if let Some((page, word)) = recv.next_put() {
-        let outcome = a.put(v, page, 0, &word)?;
-        return Ok(received(recv, &outcome));
-    }
     match recv.next()? {
         Action::Fetch { page, off, n } => {
             let found = recv.hear(a.seen(v, Piece { page, off, n }));
@@ -45,6 +41,10 @@ pub(crate) fn receive<A: Access>(
                 None => Ok(None),
                 Some(found) => Ok(Some(Followed::Over(reply_of(found)))),
             }
+        }
+        Action::Put { page, off, bytes } => {
+            let outcome = a.put(v, page, off, bytes.as_slice())?;
+            Ok(received(recv, &outcome))
         }
         action => {
             let outcome = a.act(v, action)?;
