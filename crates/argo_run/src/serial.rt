@@ -24,7 +24,7 @@ pub fn run_serial<S: Source, K: Sink>(alloc: Global, seed: u64, src: &mut S, out
         (writing K.faults K.written out.old out.new) result }
 {
     match read_script(alloc, src) {
-        Ok(scripts) => run_picked(alloc, seed, &scripts, out),
+        Ok(scripts) => run_picked(alloc, seed, scripts, out),
         Err(unread) => refuse(alloc, out, unread),
     }
 }
@@ -33,11 +33,11 @@ pub fn run_serial<S: Source, K: Sink>(alloc: Global, seed: u64, src: &mut S, out
 pub(crate) fn run_picked<K: Sink>(
     alloc: Global,
     seed: u64,
-    scripts: &Scripts,
+    scripts: Scripts,
     out: &mut K,
 ) -> Status
     ensures count { K.faults out.old ≤ K.faults out.new }
-    ensures ends { RanScript (w.Serial seed) scripts.now
+    ensures ends { RanScript (w.Serial seed) scripts
         (writing K.faults K.written out.old out.new) result }
 {
     match run_scripts(alloc, seed, scripts) {
