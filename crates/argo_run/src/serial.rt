@@ -30,12 +30,7 @@ pub fn run_serial<S: Source, K: Sink>(alloc: Global, seed: u64, src: &mut S, out
 }
 
 /// Runs a script by the picks of a seed, and writes its report.
-pub(crate) fn run_picked<K: Sink>(
-    alloc: Global,
-    seed: u64,
-    scripts: Scripts,
-    out: &mut K,
-) -> Status
+pub(crate) fn run_picked<K: Sink>(alloc: Global, seed: u64, scripts: Scripts, out: &mut K) -> Status
     ensures count { K.faults out.old ≤ K.faults out.new }
     ensures ends { RanScript (w.Serial seed) scripts
         (writing K.faults K.written out.old out.new) result }
