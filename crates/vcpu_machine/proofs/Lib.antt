@@ -1,4 +1,5 @@
 pub mod FitLaws
+pub mod GoingLaws
 pub mod LeadLaws
 pub mod LineLaws
 pub mod ListLaws
