@@ -71,12 +71,7 @@ pub(crate) fn shown(
 }
 
 // Where the line goes once an outcome has moved it on.
-fn read_on(
-    alloc: Global,
-    got: &mut Vec<u8>,
-    reader: &mut Reader,
-    moved: Moved,
-) -> Option<Followed>
+fn read_on(alloc: Global, got: &mut Vec<u8>, reader: &mut Reader, moved: Moved) -> Option<Followed>
     requires ready { IsReader reader.old }
     requires size { IsWhole moved (length got.old.items) reader.old }
     ensures { ReadsOn moved got.old reader.old result got.new reader.new }

@@ -57,11 +57,7 @@ pub(crate) fn fetch_moved(rest: &mut Cursor, got: &mut Vec<u8>, outcome: &Outcom
 }
 
 /// As `fetch_moved`, with the bytes of the first piece where they stand, or why there are none.
-pub(crate) fn seen_moved(
-    rest: &mut Cursor,
-    got: &mut Vec<u8>,
-    seen: Result<&[u8], Unseen>,
-) -> Moved
+pub(crate) fn seen_moved(rest: &mut Cursor, got: &mut Vec<u8>, seen: Result<&[u8], Unseen>) -> Moved
     requires some { 0 < rest.old.left }
     requires sound { IsSound rest.old }
     requires room { HasRoomFor rest.old got.old }

@@ -9,8 +9,8 @@ returns-clause-bytes c =
     let m = c.seen_moved-moved in
     IfOk-weaker c.args.seen _ _
     (λ bytes moves line.
-        fetch_on line m.result c.args.rest.now m.new.rest c.args.got.now m.new.got c.read_on.new.got c.args.reader.now c.read_on.new.reader (Bytes bytes.now) c.read_on.result
-        c.requires.at_phase moves m.ensures.nearer m.ensures.counted c.read_on.ensures)
+    fetch_on line m.result c.args.rest.now m.new.rest c.args.got.now m.new.got c.read_on.new.got c.args.reader.now c.read_on.new.reader (Bytes bytes.now) c.read_on.result
+    c.requires.at_phase moves m.ensures.nearer m.ensures.counted c.read_on.ensures)
     m.ensures.bytes
 
 pub returns-clause-unseen : goal.returns-clause-unseen
@@ -18,6 +18,6 @@ returns-clause-unseen c =
     let m = c.seen_moved-moved in
     IfErr-weaker c.args.seen _ _
     (λ u moves line.
-        fetch_on line m.result c.args.rest.now m.new.rest c.args.got.now m.new.got c.read_on.new.got c.args.reader.now c.read_on.new.reader (outcome_unseen u) c.read_on.result
-        c.requires.at_phase moves m.ensures.nearer m.ensures.counted c.read_on.ensures)
+    fetch_on line m.result c.args.rest.now m.new.rest c.args.got.now m.new.got c.read_on.new.got c.args.reader.now c.read_on.new.reader (outcome_unseen u) c.read_on.result
+    c.requires.at_phase moves m.ensures.nearer m.ensures.counted c.read_on.ensures)
     m.ensures.unseen
