@@ -1,5 +1,4 @@
 use Rattle.std.proofs.Common.{refl}
-use Rattle.vcpu_machine.specs.Going.{Asks}
 use Rattle.vcpu_machine.proofs.phase.Question.go.Goals as goal
 
 pub returns-in-Deliver-clause-ok : goal.returns-in-Deliver-clause-ok
