@@ -1,5 +1,5 @@
 -- The pieces of a recv, and one outcome of a fetch.
-use Rattle.std.proofs.Common.{◌≡◌, ℕ, ◌+◌, ◌-◌, ◌*◌, ◌/◌, ◌%◌, ◌<◌, ◌≤◌, min, List, [], ◌∷◌, ◌++◌, IsTrue, length, refl, ap, ◌∙◌, subst, arith, length-append, drop, slice_get, Some, false, sum_by, Result, Ok, Err, IfOk}
+use Rattle.std.proofs.Common.{◌≡◌, ℕ, ◌+◌, ◌-◌, ◌*◌, ◌/◌, ◌%◌, ◌<◌, ◌≤◌, min, List, [], ◌∷◌, ◌++◌, IsTrue, length, refl, ap, ◌∙◌, subst, arith, length-append, drop, slice_get, Some, true, false, sum_by, Result, Ok, Err, IfOk}
 use Rattle.std.proofs.lemmas.Bool.Decides.{nat_tests}
 use Rattle.std.proofs.lemmas.List.Sums.{sum_by-cons}
 use Rattle.std.specs.Option.{is_some}
@@ -83,6 +83,10 @@ pub some_first : (ps : List Piece) → 0 < length ps → (p : Piece) × (Some p 
 some_first [] some = absurd (omega arith)
 some_first (p ∷ ps) some = (p, refl)
 
+pub some_left : (ps : List Piece) → is_some (slice_get ps 0) ≡ true → 0 < length ps
+some_left [] some = absurd (let clash : ⊥ = cc in clash)
+some_left (p ∷ ps) some = omega arith
+
 pub none_left : (ps : List Piece) → is_some (slice_get ps 0) ≡ false → ps ≡ []
 none_left [] none = refl
 none_left (p ∷ ps) none = absurd (let clash : ⊥ = cc in clash)
@@ -109,6 +113,12 @@ fetch_next ps p got failed k is = ap (λ xs. fetch_all xs got failed k []) (firs
 pub can_fetch : (ps : List Piece) (p : Piece) (got : List ℕ) (failed : Next) (k : List ℕ → Rests) (o : Outcome) → Some p ≡ slice_get ps 0
     → CanFollow (fetch_all ps got failed k []) o → IsTrue (can_have (Fetch p.page p.off p.n) o)
 can_fetch ps p got failed k o is can = let P : Next → Type 0 = λ next. CanFollow next o in subst P (fetch_next ps p got failed k is) can
+
+-- bytes that the fetch of some pieces can have are those of the first
+pub heard_size : (ps : List Piece) (p : Piece) (got : List ℕ) (failed : Next) (k : List ℕ → Rests) (bytes : List ℕ) → Some p ≡ slice_get ps 0
+    → CanFollow (fetch_all ps got failed k []) (Bytes bytes) → length bytes ≡ p.n
+heard_size ps p got failed k bytes is can =
+    given p.page p.off p.n (Bytes bytes) bytes refl (can_fetch ps p got failed k (Bytes bytes) is can)
 
 -- the put of the rx word ends it
 pub put_ended : (page word : ℕ) (m : Message) (o : Outcome) (received : Received)

@@ -1,5 +1,5 @@
 -- The stages of a recv as the code has them.
-use Rattle.std.specs.Prelude.{◌≡◌, ℕ, ◌+◌, ◌-◌, ◌/◌, ◌%◌, ◌^◌, ◌<◌, ◌≤◌, List, [], ◌∷◌, length, slice_get, Option, Some, None, sum_by, IsTrue, Bool, false, vec_capacity}
+use Rattle.std.specs.Prelude.{◌≡◌, ℕ, ◌+◌, ◌-◌, ◌^◌, ◌<◌, ◌≤◌, List, [], ◌∷◌, length, slice_get, Option, Some, None, sum_by, IsTrue, Bool, false, vec_capacity}
 use Rattle.argo_base.specs.declared.piece.Piece.{Piece}
 use Rattle.argo_base.specs.Slots.{is_place}
 use Rattle.argo_model.specs.declared.action.Action.{Action}
@@ -34,10 +34,12 @@ step_of Done = Over
 abbrev pub HasBodySize : BodyRead → Type 0
 HasBodySize b = length b.got.items + sum_by (λ (p : Piece). p.n) b.slots ≡ b.head.len - 16
 
--- a part of the body is still to be fetched, and where the memory is there, the whole body has room
+-- a part of the body is still to be fetched, the size of a body is a number of 32 bits, and where the memory is there, the whole
+-- body has room
 pub record IsBody (ready : Bool) (b : BodyRead) : Type 0 where
   pub some : 0 < length b.slots
   pub size : HasBodySize b
+  pub short : b.head.len < 2 ^ 32
   pub room : IsTrue ready → b.head.len - 16 ≤ vec_capacity b.got
 
 -- the parts of the stage are as they must be
@@ -64,10 +66,6 @@ IsAction ring step a = (end : End) → ahead_at end ring.page ring.len step [] �
 -- the outcome is one that the action of the step can have
 abbrev pub CanHear : OwnRing → Step → Outcome → Type 0
 CanHear ring step o = CanFollow (ahead_at say_found ring.page ring.len step []) o
-
--- the fetch of the header at rx
-abbrev pub head_fetch : OwnRing → ℕ → Action
-head_fetch ring rx = Fetch (ring.page + (64 + rx) / 4096) ((64 + rx) % 4096) 16
 
 -- the outcome is one that the fetch of the next piece can have
 abbrev pub CanHearPiece : BodyRead → Outcome → Type 0
@@ -96,7 +94,7 @@ pub record Follows (ring : OwnRing) (step : Step) (o : Outcome) (onward : Onward
 -- with the bytes of its fetch a recv goes on to this stage, or comes to its end
 abbrev pub Hears : OwnRing → Step → List ℕ → Option Received → Stage → Type 0
 Hears ring step bytes None stage = Follows ring step (Bytes bytes) (To stage)
-Hears ring step bytes (Some received) stage = Follows ring step (Bytes bytes) (Ended received)
+Hears ring step bytes (Some received) stage = Follows ring step (Bytes bytes) (Ended received) × (stage ≡ Done)
 
 -- the rx word is to be put, and then the message is taken
 abbrev pub word_stage : BodyRead → Stage

@@ -3,9 +3,8 @@
 ghost use Rattle.std.specs.Prelude.{◌≡◌, ◌+◌, ◌<◌, ◌≤◌, ℕ, Bool, length, true, false, IsTrue, IsFalse, IfOk, OnOk};
 ghost use Rattle.guest_lib.specs.declared.own_ring.OwnRing.{OwnRing as AnyRing};
 ghost use Rattle.argo_model.specs.Rules.Fit.{is_fit};
-ghost use Rattle.guest_lib.specs.Receiving.{message_with, step_left};
+ghost use Rattle.guest_lib.specs.Receiving.{step_left};
 
-use crate::fetched::bytes_of;
 use crate::stage::{BodyRead, Onward, Stage};
 use argo_base::{Bytes, DomId, Message, NoMemory};
 use argo_model::{Action, Outcome};
@@ -67,24 +66,8 @@ impl BodyRead {
         }
     }
 
-    /// Where the library goes with the outcome of that fetch.
-    pub(crate) fn fed(self, outcome: &Outcome) -> Onward
-        requires ready { IsBody true self }
-        requires can { CanHearPiece self outcome.now }
-        ensures { (ring : AnyRing) → Follows ring (read_body self) outcome.now result }
-    {
-        let bytes = match bytes_of(outcome) {
-            Ok(bytes) => bytes,
-            Err(received) => return Onward::Ended(received),
-        };
-        let mut body = self;
-        body.got.extend_from_slice(bytes).unwrap();
-        body.slots.drop_first();
-        Onward::To(body.stage())
-    }
-
     /// The stage after the bytes so far: the next piece, or the put of the rx word.
-    pub(crate) fn stage(self) -> Stage
+    pub(crate) fn stage(mut self, alloc: Global) -> Stage
         requires { HasBodySize self }
         ensures alike { GoAlike (step_of result) (read_body self) }
         ensures ready { (len : ℕ) → IsStage len false result }
@@ -94,22 +77,6 @@ impl BodyRead {
         if self.slots.first().is_some() {
             return Stage::Body(self);
         }
-        let word = self.word;
-        Stage::Word {
-            word,
-            message: self.message(),
-        }
-    }
-
-    // The message, with the bytes so far.
-    fn message(self) -> Message
-        ensures { result ≡ message_with self.head self.got.items }
-    {
-        Message {
-            src: DomId(self.head.source.domain_id),
-            port: self.head.source.aport,
-            kind: self.head.message_type,
-            body: Bytes::from_vec(self.got),
-        }
+        self.word_stage(alloc)
     }
 }

@@ -1,23 +1,23 @@
-//! What the outcome of a fetch comes to.
+//! What a fetch that shows no bytes comes to.
 
-ghost use Rattle.std.specs.Prelude.{◌≡◌, IfOk, IfErr};
+ghost use Rattle.std.specs.Prelude.{◌≢◌, ℕ, List};
 ghost use Rattle.argo_model.specs.Rules.Access.{outcome_unseen};
-ghost use Rattle.guest_lib.specs.Ends.{EndsFetch};
+ghost use Rattle.guest_lib.specs.Ends.{EndsFetch, EndsPut};
 ghost use Rattle.guest_lib.specs.Receiving.{IsShort};
 
 use crate::received::Received;
+use argo_base::Message;
 use argo_model::{Outcome, Unseen};
 
-/// The bytes of a fetch, or what the library then came to.
-pub(crate) fn bytes_of(outcome: &Outcome) -> Result<&[u8], Received>
-    ensures ok { IfOk result (λ bytes. outcome.now ≡ Outcome.Bytes bytes.now) }
-    ensures err { IfErr result (λ received. EndsFetch outcome.now received) }
-    ensures short { IfErr result IsShort }
+/// What the library came to with the outcome of a fetch that is not its bytes.
+pub(crate) fn missed_by(outcome: &Outcome) -> Received
+    requires { (bytes : List ℕ) → outcome.now ≢ Outcome.Bytes bytes }
+    ensures ends { EndsFetch outcome.now result }
+    ensures short { IsShort result }
 {
     match outcome {
-        Outcome::Bytes(bytes) => Ok(bytes.as_slice()),
-        Outcome::Gone => Err(Received::Gone),
-        _ => Err(Received::Fault),
+        Outcome::Gone => Received::Gone,
+        _ => Received::Fault,
     }
 }
 
@@ -25,6 +25,7 @@ pub(crate) fn bytes_of(outcome: &Outcome) -> Result<&[u8], Received>
 pub(crate) fn unseen_by(unseen: Unseen) -> Received
     ensures ends { EndsFetch (outcome_unseen unseen) result }
     ensures short { IsShort result }
+    ensures ends_put { (message : Message) → EndsPut message (outcome_unseen unseen) result }
 {
     match unseen {
         Unseen::Gone => Received::Gone,

@@ -10,7 +10,7 @@ ghost use Rattle.guest_lib.specs.Receiving.{Starts, IsUnderWay, IsShort, IsNext,
 use crate::fetched::unseen_by;
 use crate::own_ring::OwnRing;
 use crate::received::Received;
-use crate::stage::{Onward, Stage};
+use crate::stage::Stage;
 use argo_base::NoMemory;
 use argo_model::{Action, Outcome, Unseen};
 use std::alloc::Global;
@@ -89,9 +89,9 @@ impl Recv {
         requires ready { IsTrue self.old.ready }
         requires can { IfOk seen (λ bytes. CanFeed self.old (Bytes bytes.now)) }
         requires can_not { IfErr seen (λ u. CanFeed self.old (outcome_unseen u)) }
-        ensures goes_on { IfOk seen
+        ensures goes_on { IfOk seen.entry
             (λ bytes. GoesOn self.old (Bytes bytes.now) result self.new) }
-        ensures ends { IfErr seen (λ u. GoesOn self.old (outcome_unseen u) result self.new) }
+        ensures ends { IfErr seen.entry (λ u. GoesOn self.old (outcome_unseen u) result self.new) }
         ensures under_way { IfNone result (IsUnderWay self.new) }
         ensures short { IfSome result IsShort }
         ensures nearer { left_of self.new < left_of self.old }
@@ -117,14 +117,11 @@ impl Recv {
         ensures nearer { left_of self.new < left_of self.old }
         ensures over { IsSome result ↔ (left_of self.new ≡ 0) }
     {
+        if let Outcome::Bytes(bytes) = outcome {
+            return self.hear(Ok(bytes.as_slice()));
+        }
         let stage = mem::replace(&mut self.stage, Stage::Done);
         self.ready = false;
-        match stage.fed(self.alloc, self.ring, outcome) {
-            Onward::To(stage) => {
-                self.stage = stage;
-                None
-            }
-            Onward::Ended(received) => Some(received),
-        }
+        Some(stage.ended_by(self.ring, outcome))
     }
 }

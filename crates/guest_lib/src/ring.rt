@@ -5,11 +5,9 @@ ghost use Rattle.argo_base.specs.Layout.{u32_at};
 ghost use Rattle.argo_base.specs.Slots.{is_legal, is_place as place_fits};
 ghost use Rattle.argo_model.specs.Programs.Recv.{is_message_size};
 ghost use Rattle.argo_model.specs.Rules.Fit.{is_fit};
-ghost use Rattle.argo_model.specs.Rules.Outcomes.{can_have};
 ghost use Rattle.guest_lib.specs.Receiving.{ReadRx, ReadTx, ReadHead};
-ghost use Rattle.guest_lib.specs.Stage.{Follows, head_fetch};
+ghost use Rattle.guest_lib.specs.Stage.{Follows};
 
-use crate::fetched::bytes_of;
 use crate::own_ring::OwnRing;
 use crate::received::Received;
 use crate::slots::Slots;
@@ -33,18 +31,7 @@ impl OwnRing {
         }
     }
 
-    /// Where the library goes with the outcome of the rx word's fetch.
-    pub(crate) fn rx_fed(self, outcome: &Outcome) -> Onward
-        requires { IsTrue (can_have (Action.Fetch self.page 0 4) outcome.now) }
-        ensures { Follows self ReadRx outcome.now result }
-    {
-        match bytes_of(outcome) {
-            Ok(bytes) => self.rx_heard(bytes),
-            Err(received) => Onward::Ended(received),
-        }
-    }
-
-    /// Where it goes with the bytes of that fetch.
+    /// Where the library goes with the bytes of the rx word's fetch.
     pub(crate) fn rx_heard(self, bytes: &[u8]) -> Onward
         requires { length bytes.now ≡ 4 }
         ensures { Follows self ReadRx (Outcome.Bytes bytes.now) result }
@@ -52,18 +39,7 @@ impl OwnRing {
         Onward::To(Stage::Tx { rx: word_in(bytes) })
     }
 
-    /// Where it goes with the outcome of the tx word's fetch, after the rx word.
-    pub(crate) fn tx_fed(self, rx: u32, outcome: &Outcome) -> Onward
-        requires { IsTrue (can_have (Action.Fetch self.page 4 4) outcome.now) }
-        ensures { Follows self (ReadTx rx) outcome.now result }
-    {
-        match bytes_of(outcome) {
-            Ok(bytes) => self.tx_heard(rx, bytes),
-            Err(received) => Onward::Ended(received),
-        }
-    }
-
-    /// Where it goes with the bytes of that fetch.
+    /// Where it goes with those of the tx word's, after the rx word.
     pub(crate) fn tx_heard(self, rx: u32, bytes: &[u8]) -> Onward
         requires { length bytes.now ≡ 4 }
         ensures { Follows self (ReadTx rx) (Outcome.Bytes bytes.now) result }
@@ -78,21 +54,7 @@ impl OwnRing {
         Onward::To(Stage::Head { rx, tx })
     }
 
-    /// Where it goes with the outcome of the fetch of the header at rx.
-    pub(crate) fn head_fed(self, alloc: Global, rx: u32, tx: u32, outcome: &Outcome) -> Onward
-        requires ring { IsTrue (is_legal self.len) }
-        requires rx { IsTrue (place_fits self.len rx) }
-        requires tx { tx < self.len }
-        requires can { IsTrue (can_have (head_fetch self rx) outcome.now) }
-        ensures { Follows self (ReadHead rx tx) outcome.now result }
-    {
-        match bytes_of(outcome) {
-            Ok(bytes) => self.head_heard(alloc, rx, tx, bytes),
-            Err(received) => Onward::Ended(received),
-        }
-    }
-
-    /// Where it goes with the bytes of that fetch.
+    /// Where it goes with those of the fetch of the header at rx.
     pub(crate) fn head_heard(self, alloc: Global, rx: u32, tx: u32, bytes: &[u8]) -> Onward
         requires ring { IsTrue (is_legal self.len) }
         requires rx { IsTrue (place_fits self.len rx) }
@@ -114,7 +76,7 @@ impl OwnRing {
             head,
             word: place_after(self.len, rx, up(head.len)),
         };
-        Onward::To(body.stage())
+        Onward::To(body.stage(alloc))
     }
 
     // Whether the length in the header counts the header, and the message ends at the tx word or before it.

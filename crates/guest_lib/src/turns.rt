@@ -1,11 +1,13 @@
 //! The action of each stage, and what follows its outcome.
 
-ghost use Rattle.std.specs.Prelude.{◌≡◌, ◌^◌, ◌<◌, length, true, false, IsTrue, IfOk, OnOk};
+ghost use Rattle.std.specs.Prelude.{◌≡◌, ◌≢◌, ◌^◌, ◌<◌, ℕ, List, length, true, false, IsTrue, IfOk, OnOk};
 ghost use Rattle.argo_base.specs.Slots.{is_legal};
 ghost use Rattle.argo_model.specs.Rules.Fit.{is_fit};
 ghost use Rattle.guest_lib.specs.Ends.{EndsPut};
-ghost use Rattle.guest_lib.specs.Receiving.{step_left, IsShort};
+ghost use Rattle.guest_lib.specs.declared.own_ring.OwnRing.{OwnRing as AnyRing};
+ghost use Rattle.guest_lib.specs.Receiving.{Step, step_left, IsShort};
 
+use crate::fetched::missed_by;
 use crate::own_ring::OwnRing;
 use crate::received::Received;
 use crate::stage::{Onward, Stage};
@@ -48,18 +50,32 @@ impl Stage {
         requires can { CanHear ring (step_of self.old) (Outcome.Bytes bytes.now) }
         ensures { Hears ring (step_of self.old) bytes.now result self.new }
     {
-        let onward = match self {
-            Stage::Rx => ring.rx_heard(bytes),
-            Stage::Tx { rx } => ring.tx_heard(*rx, bytes),
-            Stage::Head { rx, tx } => ring.head_heard(alloc, *rx, *tx, bytes),
+        match self {
+            Stage::Rx => self.goes(ring.rx_heard(bytes)),
+            Stage::Tx { rx } => {
+                let onward = ring.tx_heard(*rx, bytes);
+                self.goes(onward)
+            }
+            Stage::Head { rx, tx } => {
+                let onward = ring.head_heard(alloc, *rx, *tx, bytes);
+                self.goes(onward)
+            }
             Stage::Body(body) => {
                 if body.hear(bytes) {
                     return None;
                 }
-                Onward::To(body.word_stage(alloc))
+                *self = body.word_stage(alloc);
+                None
             }
-            _ => unreachable!(),
-        };
+            Stage::Word { .. } | Stage::Done => unreachable!(),
+        }
+    }
+
+    // Goes on to the next stage, or answers what the recv came to.
+    fn goes(&mut self, onward: Onward) -> Option<Received>
+        ensures { (ring : AnyRing) (step : Step) (bytes : List ℕ) →
+            Follows ring step (Outcome.Bytes bytes) onward → Hears ring step bytes result self.new }
+    {
         match onward {
             Onward::To(stage) => {
                 *self = stage;
@@ -72,20 +88,17 @@ impl Stage {
         }
     }
 
-    /// Where the recv goes with the outcome of that action.
-    pub(crate) fn fed(self, alloc: Global, ring: OwnRing, outcome: &Outcome) -> Onward
+    /// What the recv came to with an outcome that is not the bytes of a fetch.
+    pub(crate) fn ended_by(self, ring: OwnRing, outcome: &Outcome) -> Received
         requires ready { IsStage ring.len true self }
         requires ring { IsTrue (is_legal ring.len) }
         requires can { CanHear ring (step_of self) outcome.now }
-        ensures { Follows ring (step_of self) outcome.now result }
+        requires no_bytes { (bytes : List ℕ) → outcome.now ≢ Outcome.Bytes bytes }
+        ensures { Follows ring (step_of self) outcome.now (Onward.Ended result) }
     {
         match self {
-            Stage::Rx => ring.rx_fed(outcome),
-            Stage::Tx { rx } => ring.tx_fed(rx, outcome),
-            Stage::Head { rx, tx } => ring.head_fed(alloc, rx, tx, outcome),
-            Stage::Body(body) => body.fed(outcome),
-            Stage::Word { message, .. } => Onward::Ended(taken(message, outcome)),
-            Stage::Done => unreachable!(),
+            Stage::Word { message, .. } => taken(message, outcome),
+            _ => missed_by(outcome),
         }
     }
 }

@@ -1,4 +1,5 @@
 pub mod FitLaws
+pub mod GoingLaws
 pub mod LeadLaws
 pub mod LineLaws
 pub mod ListLaws
@@ -8,6 +9,7 @@ pub mod NotifyLaws
 pub mod RangeLaws
 pub mod ReceivingLaws
 pub mod RegisterLaws
+pub mod SeenLaws
 pub mod SendLaws
 pub mod TestLaws
 pub mod TurnLaws

@@ -1,19 +1,20 @@
 -- Laws of phases that an outcome moves on.
-use Rattle.std.proofs.Common.{ℕ, Vec, Global, Some, None, List, length, subst, sym, ◌∙◌, arith}
+use Rattle.std.proofs.Common.{ℕ, Vec, Global, Option, Some, None, List, length, subst, sym, ◌∙◌, arith}
 use Rattle.vcpu_machine.specs.declared.cursor.Cursor.{Cursor}
 use Rattle.argo_model.specs.declared.line.Line.{Line}
 use Rattle.argo_model.specs.declared.action.Outcome.{Outcome}
-use Rattle.vcpu_machine.specs.declared.ranges.Moved.TheVariants.{More, Whole, Failed}
+use Rattle.vcpu_machine.specs.declared.ranges.Moved.{Moved}
+use Rattle.vcpu_machine.specs.declared.ranges.Moved.TheVariants.{More, Whole, Failed, Ended}
 use Rattle.vcpu_machine.specs.declared.phase.Phase.{Phase}
 use Rattle.vcpu_machine.specs.declared.phase.Phase.TheVariants.{Reading, Writing}
 use Rattle.vcpu_machine.specs.declared.phase.Followed.{Followed}
 use Rattle.vcpu_machine.specs.declared.phase.Text.{Text}
 use Rattle.vcpu_machine.specs.declared.phase.Reader.{Reader}
-use Rattle.vcpu_machine.specs.Ranges.{PutMoves, FetchMoves, IsNearer, IsCounted}
+use Rattle.vcpu_machine.specs.Ranges.{PutMoves, FetchMoves, IsNearer, IsCounted, CountsBytes}
 use Rattle.vcpu_machine.specs.Text.{text_of, after_put, if_not_put, most_after_put}
 use Rattle.vcpu_machine.specs.Reader.{after_read, after_fault, HasSize, most_after}
 use Rattle.vcpu_machine.specs.Phase.{IsWriting, IsReading}
-use Rattle.vcpu_machine.specs.Followed.{Leads, Follows}
+use Rattle.vcpu_machine.specs.Followed.{Leads, Follows, ReadsOn}
 use Rattle.vcpu_machine.proofs.RangeLaws.{some_piece}
 
 -- the last piece of a text is put
@@ -57,3 +58,22 @@ fetch_failed line c d got new reader o on stays at moves h = record {
   ready = h.ready line;
   nearer = let some = some_piece c at.some at.sound in let few = h.few in omega (arith, some);
 }
+
+-- and so the line goes on with the reader, once an outcome has moved the range on
+pub fetch_on : (line : Line) (moved : Moved) (c d : Cursor) (got mid new : Vec ℕ Global) (reader stays : Reader) (o : Outcome) (on : Option Followed) → IsReading c (length got.items) reader
+    → FetchMoves c got.items o moved d mid.items → IsNearer moved c d → CountsBytes moved c got.items d mid.items → ReadsOn moved mid reader on new stays
+    → Follows line (Reading c got reader) o on (Reading d new stays)
+fetch_on line More c d got mid new reader stays o on at moves nearer counted h =
+    subst (λ x. Follows line (Reading c got reader) o x (Reading d new stays)) (sym h.0)
+    (subst (λ x. Follows line (Reading c got reader) o None (Reading d x stays)) (sym h.1)
+    (subst (λ x. Follows line (Reading c got reader) o None (Reading d mid x)) (sym h.2) (fetch_more line c d got mid reader o at moves nearer counted)))
+fetch_on line Whole c d got mid new reader stays o on at moves nearer counted h =
+    subst (λ x. Follows line (Reading c got reader) o x (Reading d new stays)) (sym h.1) (fetch_whole line c d got mid.items reader o h.0 (Reading d new stays) at moves h.2)
+fetch_on line Failed c d got mid new reader stays o on at moves nearer counted h =
+    subst (λ x. Follows line (Reading c got reader) o x (Reading d new stays)) (sym h.1) (fetch_failed line c d got mid.items reader o h.0 (Reading d new stays) at moves h.2)
+fetch_on line Ended c d got mid new reader stays o on at moves nearer counted h =
+    subst (λ x. Follows line (Reading c got reader) o x (Reading d new stays)) (sym h) (record {
+      rest = λ os. moves (after_fault reader) (after_read reader) os;
+      ready = tt;
+      nearer = let some = some_piece c at.some at.sound in omega (arith, some);
+    })

@@ -13,7 +13,8 @@ use Rattle.argo_model.specs.Runs.Script.{is_short}
 use Rattle.vcpu_machine.specs.Cursor.{pieces_left, IsSound}
 use Rattle.argo_model.specs.Rules.Outcomes.{can_have}
 use Rattle.vcpu_machine.specs.Ranges.{GivesFirst}
-use Rattle.argo_model.specs.Programs.Asks.{Next, Do, Rests, CanFollow, collect, put_all}
+use Rattle.argo_model.specs.declared.reply.Reply.TheVariants.{Gone as gone}
+use Rattle.argo_model.specs.Programs.Asks.{Next, Do, Say, Rests, CanFollow, collect, put_all}
 use Rattle.vcpu_machine.specs.Phase.{takes_none}
 
 -- an outcome other than `Done` and `Gone` ends a put
@@ -53,6 +54,10 @@ pub collect-refused : (c : Cursor) (o : Outcome) (got : List ℕ) (failed : Rest
 collect-refused c o got failed k os some sound not_bytes not_gone =
     ap (λ ps. collect ps got failed k (o ∷ os)) (pieces-first c.page c.off c.left sound.inside some)
     ∙ fetch_refused o (record { page = c.page; off = c.off; n = min c.left (4096 - c.off) }) (pieces (4096 * (c.page + 1) + 0) (c.left - min c.left (4096 - c.off))) got failed k os not_bytes not_gone
+
+-- a caller that is gone ends it too
+pub collect-gone : (c : Cursor) (got : List ℕ) (failed : Rests) (k : List ℕ → Rests) (os : List Outcome) → 0 < c.left → IsSound c → collect (pieces_left c) got failed k (Gone ∷ os) ≡ Say gone
+collect-gone c got failed k os some sound = ap (λ ps. collect ps got failed k (Gone ∷ os)) (pieces-first c.page c.off c.left sound.inside some)
 
 first_gives : (c : Cursor) (page off : ℕ) (o : Outcome) → IsTrue (can_have (Fetch page off (min c.left (4096 - c.off))) o) → GivesFirst c o
 first_gives c page off Done can = tt

@@ -1,9 +1,13 @@
 -- Laws of lines that the guest's library works through.
-use Rattle.std.proofs.Common.{◌≡◌, Bool, true, Result, Ok, Err, OnOk, OnErr, sym, ap, subst}
+use Rattle.std.proofs.Common.{◌≡◌, ◌<◌, ◌∷◌, Bool, true, Option, Result, Ok, Err, OnOk, OnErr, sym, ap, subst, ◌∙◌}
+use Rattle.argo_model.specs.declared.action.Outcome.{Outcome}
 use Rattle.argo_model.specs.Programs.Recv.{say_found}
 use Rattle.argo_model.specs.declared.line.Line.{Line}
 use Rattle.guest_lib.specs.Receiving.{Receiving, ahead, left_of, IsUnderWay}
 use Rattle.vcpu_machine.specs.declared.phase.Phase.TheVariants.{Receiving as Library}
+use Rattle.vcpu_machine.specs.declared.phase.Followed.{Followed}
+use Rattle.vcpu_machine.specs.Followed.{ReceiveFollows, turned_left}
+use Rattle.vcpu_machine.specs.Going.{ReceivesAlike}
 use Rattle.vcpu_machine.specs.Phase.{GoesOnAlike}
 
 module _ (line : Line) (old new : Receiving) (h : IsUnderWay old) where
@@ -19,3 +23,24 @@ module _ (line : Line) (old new : Receiving) (h : IsUnderWay old) where
       → GoesOnAlike line (Library old) (Library new)
   recv_alike (Ok x) ok err = alike_by true ok
   recv_alike (Err e) ok err = alike_by old.ready err
+
+module _ (old new : Receiving) (same : new ≡ record old { ready = true }) where
+  pub still_under_way : IsUnderWay old → IsUnderWay new
+  still_under_way h = subst IsUnderWay (sym same) (record { left = h.left; next = h.next })
+
+  pub receives_alike : IsUnderWay old → ReceivesAlike old new
+  receives_alike h = λ line. alike_by line old new h true same
+
+  pub followed_from : (o : Outcome) (followed : Option Followed) (later : Receiving) → ReceiveFollows new o followed later → ReceiveFollows old o followed later
+  followed_from o followed later follows = λ line.
+      let f = follows line in
+      let P : Receiving → Type 0 = λ r. turned_left (Library later) followed < left_of r in
+      record {
+        rest = λ os. ap (λ r. ahead say_found r (o ∷ os)) (sym same) ∙ f.rest os;
+        ready = f.ready;
+        nearer = subst P same f.nearer;
+      }
+
+pub on_err : {T E : Type 0} (r : Result T E) (P : Type 0) → P → OnErr r P
+on_err (Ok x) P h = tt
+on_err (Err e) P h = h

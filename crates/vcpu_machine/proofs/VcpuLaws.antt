@@ -12,10 +12,12 @@ use Rattle.argo_model.specs.declared.scripts.Actor.{Actor}
 use Rattle.argo_model.specs.declared.scripts.Actor.TheVariants.{Vcpu, Control}
 use Rattle.argo_model.specs.Programs.Program.{Do, Say, program}
 use Rattle.argo_model.specs.Programs.Recv.{say_found}
+use Rattle.argo_model.specs.Rules.Access.{is_fit_of}
 use Rattle.argo_model.specs.Rules.Fit.{is_fit, is_fit_for, needs_no_caller}
 use Rattle.argo_model.specs.Runs.Script.{Section, turns_of}
 use Rattle.vcpu_machine.specs.declared.phase.Phase.{Phase}
 use Rattle.vcpu_machine.specs.declared.phase.Phase.TheVariants.{Reading, Writing, Asking, Looking, Receiving, Ended}
+use Rattle.vcpu_machine.specs.Going.{MayGo}
 use Rattle.vcpu_machine.specs.Phase.{rest_of, IsAtPhase, GoesOnAlike, HasRoom, phase_left, is_line_for}
 use Rattle.vcpu_machine.specs.Steps.{most_steps}
 use Rattle.vcpu_machine.specs.Vcpu.{VcpuAt, lines_left, ahead_of, ahead, left_of, reply_in, StandsFor, Begun, GoesOn, Fed, IsAtLine, NeedsNoCaller, IsOwn, IsOwnAt, HasRoomIf, IsVcpu, Begins}
@@ -45,6 +47,14 @@ at_phase_left line Ended h = absurd h
 pub fit_for : (actor : Actor) (line : Line) (phase : Phase) (a : Action) → IsOwn actor line phase → rest_of line phase [] ≡ Do a → IsTrue (is_fit a) → IsTrue (is_fit_for actor a)
 fit_for (Vcpu d g) line phase a own does fit = fit
 fit_for Control line phase a own does fit = and_true (is_fit a) (needs_no_caller a) fit (subst NeedsNoCaller does own.0)
+
+-- and so the section may perform it
+pub may_go : (actors : List Actor) (k : ℕ) (actor : Actor) (line : Line) (phase : Phase) → slice_get actors k ≡ Some actor → IsOwn actor line phase → IsAtPhase line phase
+    → MayGo actors k (rest_of line phase [])
+may_go actors k actor line phase section own at_phase =
+    let next = at_phase_does line phase at_phase in
+    subst (λ n. MayGo actors k n) (sym next.1)
+    (λ fit. subst (λ x. IsTrue (is_fit_of x next.0)) (sym section) (fit_for actor line phase next.0 own next.1 fit))
 
 -- a line of a section begins as its own
 own_at_start : (actor : Actor) (line : Line) (phase : Phase) → IsTrue (is_line_for actor line)

@@ -6,6 +6,7 @@ use Rattle.vcpu_machine.specs.declared.cursor.Cursor.{Cursor}
 use Rattle.vcpu_machine.specs.declared.phase.Phase.{Phase}
 use Rattle.vcpu_machine.specs.declared.phase.Phase.TheVariants.{Reading, Writing, Asking, Receiving as Library}
 use Rattle.vcpu_machine.specs.declared.phase.Question.{Question}
+use Rattle.vcpu_machine.specs.declared.phase.Question.TheVariants.{Deliver}
 use Rattle.vcpu_machine.specs.declared.phase.Text.{Text}
 use Rattle.guest_lib.specs.Receiving.{Receiving}
 use Rattle.vcpu_machine.specs.declared.phase.Followed.{Followed}
@@ -13,9 +14,14 @@ use Rattle.vcpu_machine.specs.declared.phase.Followed.TheVariants.{To, Over}
 use Rattle.vcpu_machine.specs.declared.phase.Reader.{Reader}
 use Rattle.argo_model.specs.declared.line.Line.{Line}
 use Rattle.argo_model.specs.declared.action.Outcome.{Outcome}
+use Rattle.argo_model.specs.declared.action.Address.{Address}
+use Rattle.argo_model.specs.declared.action.Load.{Load}
 use Rattle.argo_model.specs.Programs.Asks.{Say, Rests}
 use Rattle.argo_model.specs.Programs.Asks.{collect}
-use Rattle.vcpu_machine.specs.Reader.{after_read, after_fault, most_after}
+use Rattle.argo_model.specs.declared.reply.Reply.TheVariants.{Gone}
+use Rattle.vcpu_machine.specs.declared.ranges.Moved.{Moved}
+use Rattle.vcpu_machine.specs.declared.ranges.Moved.TheVariants.{More, Whole, Failed, Ended}
+use Rattle.vcpu_machine.specs.Reader.{after_read, after_fault, HasSize, most_after}
 use Rattle.vcpu_machine.specs.Phase.{rest_of, IsAtPhase, phase_left}
 
 -- what the line still does from there
@@ -66,6 +72,10 @@ PutFollows line text c outcome o later = Follows line (Writing c text) outcome o
 abbrev pub AskFollows : Question → Outcome → Followed → Type 0
 AskFollows q outcome o = (line : Line) (stays : Phase) → Follows line (Asking q) outcome (Some o) stays
 
+-- one that delivers, whatever and wherever to
+abbrev pub Sends : Outcome → Followed → Type 0
+Sends outcome o = (to : Address) (load : Load) → AskFollows (Deliver to load) outcome o
+
 -- one that the library works through
 abbrev pub ReceiveFollows : Receiving → Outcome → Option Followed → Receiving → Type 0
 ReceiveFollows r outcome o after = (line : Line) → Follows line (Library r) outcome o (Library after)
@@ -74,6 +84,20 @@ ReceiveFollows r outcome o after = (line : Line) → Follows line (Library r) ou
 abbrev pub Fetches : Cursor → Vec ℕ Global → Reader → Outcome → Option Followed → Cursor → Vec ℕ Global → Reader → Type 0
 Fetches c got reader outcome o later new_got new_reader =
     (line : Line) → Follows line (Reading c got reader) outcome o (Reading later new_got new_reader)
+
+-- where the last piece was fetched, there are so many bytes as the reader wants
+abbrev pub IsWhole : Moved → ℕ → Reader → Type 0
+IsWhole More n reader = Unit {0}
+IsWhole Whole n reader = HasSize n reader
+IsWhole Failed n reader = Unit {0}
+IsWhole Ended n reader = Unit {0}
+
+-- once an outcome has moved a fetch on, the line stays where more is to come, and else goes on with the reader
+abbrev pub ReadsOn : Moved → Vec ℕ Global → Reader → Option Followed → Vec ℕ Global → Reader → Type 0
+ReadsOn More got reader o new_got new_reader = (o ≡ None) × (new_got ≡ got) × (new_reader ≡ reader)
+ReadsOn Whole got reader o new_got new_reader = (on : Followed) × (o ≡ Some on) × Leads (after_read reader got.items) (most_after reader) on
+ReadsOn Failed got reader o new_got new_reader = (on : Followed) × (o ≡ Some on) × Leads (after_fault reader) (most_after reader) on
+ReadsOn Ended got reader o new_got new_reader = o ≡ Some (Over Gone)
 
 -- all of these pieces are to be fetched
 pub record Reads (ps : List Piece) (reader : Reader) (phase : Phase) : Type 0 where

@@ -2,17 +2,18 @@
 
 ghost use Rattle.std.specs.Prelude.{◌≡◌, ◌+◌, ◌-◌, ◌<◌, ◌≤◌, min, List, ℕ, [], length, IsTrue, IfOk, IfErr, vec_len, vec_capacity};
 ghost use Rattle.vcpu_machine.specs.Cursor.{pieces_left, IsSound};
+ghost use Rattle.argo_model.specs.declared.action.Outcome.TheVariants.{Bytes};
 ghost use Rattle.argo_model.specs.Rules.Access.{outcome_unseen};
 ghost use Rattle.argo_model.specs.Rules.Fit.{is_fit};
 ghost use Rattle.argo_model.specs.Programs.Asks.{Do, Rests};
 ghost use Rattle.vcpu_machine.specs.Ranges.{FetchesFirst, HasRoomFor, GivesFirst};
-ghost use Rattle.vcpu_machine.specs.Reader.{HasSize};
+ghost use Rattle.vcpu_machine.specs.Reader.{HasSize, IsReader};
 ghost use Rattle.vcpu_machine.specs.Phase.{IsReading};
-ghost use Rattle.vcpu_machine.specs.Followed.{Fetches};
+ghost use Rattle.vcpu_machine.specs.Followed.{Fetches, IsWhole, ReadsOn};
 
 use crate::cursor::Cursor;
 use crate::phase::{Followed, Reader};
-use crate::ranges::{Moved, fetch_moved};
+use crate::ranges::{Moved, fetch_moved, seen_moved};
 use argo_model::{Action, Outcome, Reply, Unseen};
 use std::alloc::Global;
 use std::mem;
@@ -45,7 +46,37 @@ pub(crate) fn fetched(
     requires first { GivesFirst rest.old outcome.now }
     ensures { Fetches rest.old got.old reader.old outcome.now result rest.new got.new reader.new }
 {
-    match fetch_moved(rest, got, outcome) {
+    let moved = fetch_moved(rest, got, outcome);
+    read_on(alloc, got, reader, moved)
+}
+
+/// As `fetched`, with the bytes of the first piece where they stand, or why there are none.
+pub(crate) fn shown(
+    alloc: Global,
+    rest: &mut Cursor,
+    got: &mut Vec<u8>,
+    reader: &mut Reader,
+    seen: Result<&[u8], Unseen>,
+) -> Option<Followed>
+    requires at_phase { IsReading rest.old (length got.old.items) reader.old }
+    requires room { HasRoomFor rest.old got.old }
+    requires first { IfOk seen (λ bytes. GivesFirst rest.old (Bytes bytes.now)) }
+    ensures bytes { IfOk seen.entry (λ bytes. Fetches rest.old got.old reader.old (Bytes bytes.now)
+        result rest.new got.new reader.new) }
+    ensures unseen { IfErr seen.entry (λ u. Fetches rest.old got.old reader.old (outcome_unseen u)
+        result rest.new got.new reader.new) }
+{
+    let moved = seen_moved(rest, got, seen);
+    read_on(alloc, got, reader, moved)
+}
+
+// Where the line goes once an outcome has moved it on.
+fn read_on(alloc: Global, got: &mut Vec<u8>, reader: &mut Reader, moved: Moved) -> Option<Followed>
+    requires ready { IsReader reader.old }
+    requires size { IsWhole moved (length got.old.items) reader.old }
+    ensures { ReadsOn moved got.old reader.old result got.new reader.new }
+{
+    match moved {
         Moved::More => None,
         Moved::Whole => {
             let reader = mem::replace(reader, Reader::Show);
@@ -57,41 +88,5 @@ pub(crate) fn fetched(
             Some(reader.failed())
         }
         Moved::Ended => Some(Followed::Over(Reply::Gone)),
-    }
-}
-
-/// Where a line goes that fetches, with the bytes of the first piece; nowhere while others are to come.
-pub(crate) fn read_on(
-    alloc: Global,
-    rest: &mut Cursor,
-    got: &mut Vec<u8>,
-    reader: &mut Reader,
-    seen: Result<&[u8], Unseen>,
-) -> Option<Followed>
-    requires at_phase { IsReading rest.old (length got.old.items) reader.old }
-    requires room { HasRoomFor rest.old got.old }
-    requires first { IfOk seen (λ bytes. GivesFirst rest.old (Outcome.Bytes bytes.now)) }
-    ensures bytes { IfOk seen (λ bytes. Fetches rest.old got.old reader.old
-        (Outcome.Bytes bytes.now) result rest.new got.new reader.new) }
-    ensures unseen { IfErr seen (λ u. Fetches rest.old got.old reader.old
-        (outcome_unseen u) result rest.new got.new reader.new) }
-{
-    match seen {
-        Ok(bytes) => {
-            got.extend_from_slice(bytes).unwrap();
-            let (_, later) = rest.split_first();
-            *rest = later;
-            if later.left != 0 {
-                return None;
-            }
-            let reader = mem::replace(reader, Reader::Show);
-            let got = mem::replace(got, Vec::new(alloc));
-            Some(reader.used(alloc, got))
-        }
-        Err(Unseen::Fault) => {
-            let reader = mem::replace(reader, Reader::Show);
-            Some(reader.failed())
-        }
-        Err(Unseen::Gone) => Some(Followed::Over(Reply::Gone)),
     }
 }

@@ -7,7 +7,7 @@ ghost use Rattle.argo_model.specs.Programs.Program.{Do};
 
 use crate::call::{Call, caller_of};
 use crate::cursor::Cursor;
-use crate::fetch::{fetch_first, fetched, read_on};
+use crate::fetch::{fetch_first, fetched, shown};
 use crate::looking::looked;
 use crate::phase::{Followed, Phase, Question, Reader, Text};
 use crate::reading::reading;
@@ -22,7 +22,7 @@ impl Phase {
     ghost use Rattle.argo_model.specs.Programs.Asks.{CanFollow};
     ghost use Rattle.vcpu_machine.specs.Phase.{rest_of, takes_none, IsAtPhase, HasRoom, GoesOnAlike, phase_left, Feeds, StandsForAll, is_line_for};
     ghost use Rattle.vcpu_machine.specs.Followed.{Follows};
-    ghost use Rattle.vcpu_machine.specs.Going.{MayGo, Goes};
+    ghost use Rattle.vcpu_machine.specs.Going.{MayGo, Goes, Settles};
 
     /// The phase at which a line of an actor begins.
     pub(crate) fn start(alloc: Global, actor: Actor, line: &Line) -> Phase
@@ -78,19 +78,19 @@ impl Phase {
         }
     }
 
-    /// Performs the next action in a world: where the line then goes; nowhere while it stays at the phase.
+    /// Performs the next action as section `v` of a world, and answers the reply where the line then has it.
     pub(crate) fn go<A: Access>(
         &mut self,
         alloc: Global,
         line: &Line,
         v: u32,
         a: &mut A,
-    ) -> Result<Option<Followed>, NoMemory>
+    ) -> Result<Option<Reply>, NoMemory>
         requires at_phase { IsAtPhase line.now self.old }
         requires may { MayGo (A.actors a.old) v (rest_of line.now self.old []) }
         requires few { IsTrue (has_steps_left (A.totals a.old) v) }
-        ensures ok { IfOk result (λ followed. Goes (A.actors a.old) v line.now self.old
-            (A.told a.old) (A.totals a.old) followed self.new (A.told a.new) (A.totals a.new)) }
+        ensures ok { IfOk result (λ reply. Goes (A.actors a.old) v line.now self.old
+            (A.told a.old) (A.totals a.old) reply self.new (A.told a.new) (A.totals a.new)) }
         ensures err { OnErr result (GoesOnAlike line.now self.old self.new) }
         ensures err_room { OnErr result (HasRoom self.old → HasRoom self.new) }
         ensures actors { A.actors a.new ≡ A.actors a.old }
@@ -101,18 +101,43 @@ impl Phase {
             Phase::Reading { rest, got, reader } => {
                 got.reserve(reader.room(rest.left))?;
                 let (piece, _) = rest.split_first();
-                let followed = read_on(alloc, rest, got, reader, a.seen(v, piece));
+                let followed = shown(alloc, rest, got, reader, a.seen(v, piece));
                 a.count(v);
-                Ok(followed)
+                Ok(self.settle(followed))
             }
-            Phase::Writing { rest, text } => text.go(alloc, line, rest, v, a),
-            Phase::Asking(question) => Ok(Some(question.go(alloc, v, a)?)),
+            Phase::Writing { rest, text } => {
+                let outcome = text.put_in(line, *rest, v, a)?;
+                let followed = text.moved(alloc, line, rest, &outcome);
+                Ok(self.settle(followed))
+            }
+            Phase::Asking(question) => {
+                let followed = question.go(alloc, v, a)?;
+                Ok(self.settle(Some(followed)))
+            }
             Phase::Looking { later } => {
                 let outcome = a.act(v, Action::Look)?;
-                Ok(looked(later, &outcome))
+                let followed = looked(later, &outcome);
+                Ok(self.settle(followed))
             }
-            Phase::Receiving(recv) => receive(recv, v, a),
+            Phase::Receiving(recv) => {
+                let followed = receive(recv, v, a)?;
+                Ok(self.settle(followed))
+            }
             Phase::Ended => unreachable!(),
+        }
+    }
+
+    // Goes to a phase, or stays, or answers the reply.
+    fn settle(&mut self, followed: Option<Followed>) -> Option<Reply>
+        ensures { Settles followed self.old result self.new }
+    {
+        match followed {
+            None => None,
+            Some(Followed::To(phase)) => {
+                *self = phase;
+                None
+            }
+            Some(Followed::Over(reply)) => Some(reply),
         }
     }
 

@@ -1,13 +1,13 @@
 //! The single actions of lines, and what follows them.
 
 ghost use Rattle.std.specs.Prelude.{◌≡◌, ◌+◌, IfOk, IsOk, OnErr, IsTrue};
-ghost use Rattle.argo_model.specs.Rules.Access.{is_fit_at, has_steps_left};
+ghost use Rattle.argo_model.specs.Rules.Access.{has_steps_left};
 ghost use Rattle.argo_model.specs.Rules.Fit.{is_fit};
 ghost use Rattle.argo_model.specs.Programs.Asks.{Do, say_done};
 ghost use Rattle.argo_model.specs.Programs.Send.{say_accepted};
 ghost use Rattle.vcpu_machine.specs.Notifying.{swept_on};
 ghost use Rattle.vcpu_machine.specs.Entries.{most_of_notify};
-ghost use Rattle.vcpu_machine.specs.Followed.{Leads};
+ghost use Rattle.vcpu_machine.specs.Followed.{Leads, Sends};
 
 use crate::layout::read_numbers;
 use crate::notify;
@@ -21,7 +21,7 @@ use std::alloc::Global;
 impl Question {
     ghost use Rattle.vcpu_machine.specs.Question.{action_of, answered_by, IsQuestion, most_after_answer};
     ghost use Rattle.vcpu_machine.specs.Followed.{AskFollows};
-    ghost use Rattle.vcpu_machine.specs.Going.{Asks};
+    ghost use Rattle.vcpu_machine.specs.Going.{MayGo, Asks};
     ghost use Rattle.vcpu_machine.specs.Phase.{takes_none};
 
     /// The action, with copies of what it takes.
@@ -81,7 +81,7 @@ impl Question {
         a: &mut A,
     ) -> Result<Followed, NoMemory>
         requires question { IsQuestion self.old }
-        requires may { IsTrue (is_fit_at (A.actors a.old) v (action_of self.old)) }
+        requires may { MayGo (A.actors a.old) v (Do (action_of self.old)) }
         requires few { IsTrue (has_steps_left (A.totals a.old) v) }
         ensures ok { IfOk result (λ followed. Asks (A.actors a.old) v self.old
             (A.told a.old) (A.totals a.old) followed (A.told a.new) (A.totals a.new)) }
@@ -92,10 +92,7 @@ impl Question {
     {
         if let Question::Deliver { address, load } = self {
             let outcome = a.deliver(v, *address, load)?;
-            return Ok(match outcome {
-                Outcome::Gone => Followed::Over(Reply::Gone),
-                _ => delivered(&outcome),
-            });
+            return Ok(sent(&outcome));
         }
         let action = self.action(alloc)?;
         let outcome = a.act(v, action)?;
@@ -141,7 +138,17 @@ fn done(outcome: &Outcome) -> Followed
     }
 }
 
-// After a delivery.
+// After a delivery, of any load.
+fn sent(outcome: &Outcome) -> Followed
+    ensures { Sends outcome.now result }
+{
+    match outcome {
+        Outcome::Gone => Followed::Over(Reply::Gone),
+        _ => delivered(outcome),
+    }
+}
+
+// After one with an outcome other than `Gone`.
 fn delivered(outcome: &Outcome) -> Followed
     ensures { Leads (say_accepted outcome.now) 0 result }
 {

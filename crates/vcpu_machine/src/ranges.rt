@@ -1,11 +1,13 @@
 //! One outcome of a range that is put or fetched piece by piece.
 
-ghost use Rattle.std.specs.Prelude.{◌≡◌, ◌+◌, ◌-◌, ◌<◌, ◌≤◌, min, length, vec_len, vec_capacity};
+ghost use Rattle.std.specs.Prelude.{◌≡◌, ◌+◌, ◌-◌, ◌<◌, ◌≤◌, min, length, IfOk, IfErr, vec_len, vec_capacity};
+ghost use Rattle.argo_model.specs.declared.action.Outcome.TheVariants.{Bytes};
+ghost use Rattle.argo_model.specs.Rules.Access.{outcome_unseen};
 ghost use Rattle.vcpu_machine.specs.Cursor.{IsSound, pieces_left};
 ghost use Rattle.vcpu_machine.specs.Ranges.{Advances, PutMoves, FetchMoves, IsNearer, CountsBytes, HasRoomFor, GivesFirst};
 
 use crate::cursor::Cursor;
-use argo_model::Outcome;
+use argo_model::{Outcome, Unseen};
 
 /// What an outcome of the first piece of a range comes to.
 #[derive(Clone, Copy, Debug)]
@@ -51,6 +53,31 @@ pub(crate) fn fetch_moved(rest: &mut Cursor, got: &mut Vec<u8>, outcome: &Outcom
         }
         Outcome::Gone => Moved::Ended,
         _ => Moved::Failed,
+    }
+}
+
+/// As `fetch_moved`, with the bytes of the first piece where they stand, or why there are none.
+pub(crate) fn seen_moved(rest: &mut Cursor, got: &mut Vec<u8>, seen: Result<&[u8], Unseen>) -> Moved
+    requires some { 0 < rest.old.left }
+    requires sound { IsSound rest.old }
+    requires room { HasRoomFor rest.old got.old }
+    requires first { IfOk seen (λ bytes. GivesFirst rest.old (Bytes bytes.now)) }
+    ensures bytes { IfOk seen.entry (λ bytes. FetchMoves rest.old got.old.items (Bytes bytes.now)
+        result rest.new got.new.items) }
+    ensures unseen { IfErr seen.entry (λ u. FetchMoves rest.old got.old.items (outcome_unseen u)
+        result rest.new got.new.items) }
+    ensures nearer { IsNearer result rest.old rest.new }
+    ensures counted { CountsBytes result rest.old got.old.items rest.new got.new.items }
+{
+    match seen {
+        Ok(bytes) => {
+            got.extend_from_slice(bytes).unwrap();
+            advance(rest)
+        }
+        Err(unseen) => match unseen {
+            Unseen::Fault => Moved::Failed,
+            Unseen::Gone => Moved::Ended,
+        },
     }
 }
 

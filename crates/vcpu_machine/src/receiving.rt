@@ -1,14 +1,17 @@
 //! A line that the guest's library works through.
 
-ghost use Rattle.std.specs.Prelude.{◌≡◌, ◌^◌, ◌<◌, length, take, IsTrue};
+ghost use Rattle.std.specs.Prelude.{◌≡◌, ◌^◌, ◌<◌, [], length, take, IsTrue, IfOk, IfErr, OnErr};
 ghost use Rattle.argo_model.specs.Programs.Asks.{Say};
 ghost use Rattle.argo_model.specs.Programs.Recv.{say_found};
-ghost use Rattle.guest_lib.specs.Receiving.{IsUnderWay, CanFeed, IsShort, ended};
+ghost use Rattle.argo_model.specs.declared.action.Outcome.TheVariants.{Bytes as BytesCame};
+ghost use Rattle.argo_model.specs.Rules.Access.{has_steps_left, outcome_unseen};
+ghost use Rattle.guest_lib.specs.Receiving.{ahead, IsUnderWay, CanFeed, IsShort, ended};
 ghost use Rattle.vcpu_machine.specs.Followed.{ReceiveFollows};
+ghost use Rattle.vcpu_machine.specs.Going.{MayGo, Receives, ReceivesAlike};
 
 use crate::phase::Followed;
 use argo_base::{Bytes, NoMemory, Piece};
-use argo_model::{Access, Action, Outcome, Reply};
+use argo_model::{Access, Action, Outcome, Reply, Unseen};
 use guest_lib::{Received, Recv};
 
 /// The first bytes of a body, which a reply shows.
@@ -32,24 +35,46 @@ pub(crate) fn receive<A: Access>(
     recv: &mut Recv,
     v: u32,
     a: &mut A,
-) -> Result<Option<Followed>, NoMemory> {
+) -> Result<Option<Followed>, NoMemory>
+    requires under_way { IsUnderWay recv.old }
+    requires may { MayGo (A.actors a.old) v (ahead say_found recv.old []) }
+    requires few { IsTrue (has_steps_left (A.totals a.old) v) }
+    ensures ok { IfOk result (λ followed. Receives (A.actors a.old) v recv.old (A.told a.old)
+        (A.totals a.old) followed recv.new (A.told a.new) (A.totals a.new)) }
+    ensures err { OnErr result (ReceivesAlike recv.old recv.new) }
+    ensures err_room { OnErr result (IsTrue recv.old.ready → IsTrue recv.new.ready) }
+    ensures actors { A.actors a.new ≡ A.actors a.old }
+    ensures err_told { OnErr result (A.told a.new ≡ A.told a.old) }
+    ensures err_totals { OnErr result (A.totals a.new ≡ A.totals a.old) }
+{
     match recv.next()? {
         Action::Fetch { page, off, n } => {
-            let found = recv.hear(a.seen(v, Piece { page, off, n }));
+            let followed = heard(recv, a.seen(v, Piece { page, off, n }));
             a.count(v);
-            match found {
-                None => Ok(None),
-                Some(found) => Ok(Some(Followed::Over(reply_of(found)))),
-            }
+            Ok(followed)
         }
         Action::Put { page, off, bytes } => {
             let outcome = a.put(v, page, off, bytes.as_slice())?;
             Ok(received(recv, &outcome))
         }
-        action => {
-            let outcome = a.act(v, action)?;
-            Ok(received(recv, &outcome))
-        }
+        _ => unreachable!(),
+    }
+}
+
+// As `received`, with the bytes of a fetch where they stand, or why there are none.
+fn heard(recv: &mut Recv, seen: Result<&[u8], Unseen>) -> Option<Followed>
+    requires under_way { IsUnderWay recv.old }
+    requires ready { IsTrue recv.old.ready }
+    requires can { IfOk seen (λ bytes. CanFeed recv.old (BytesCame bytes.now)) }
+    requires can_not { IfErr seen (λ u. CanFeed recv.old (outcome_unseen u)) }
+    ensures bytes { IfOk seen.entry
+        (λ bytes. ReceiveFollows recv.old (BytesCame bytes.now) result recv.new) }
+    ensures unseen { IfErr seen.entry
+        (λ u. ReceiveFollows recv.old (outcome_unseen u) result recv.new) }
+{
+    match recv.hear(seen) {
+        None => None,
+        Some(found) => Some(Followed::Over(reply_of(found))),
     }
 }
 

@@ -5,6 +5,7 @@ ghost use Rattle.vcpu_machine.specs.Cursor.{pieces_left, IsSound};
 ghost use Rattle.argo_model.specs.Rules.Access.{has_steps_left};
 ghost use Rattle.argo_model.specs.Rules.Fit.{is_fit};
 ghost use Rattle.argo_model.specs.Programs.Asks.{Say, Do, Next, Rests, put_all};
+ghost use Rattle.vcpu_machine.specs.Going.{MayPut, Puts};
 ghost use Rattle.vcpu_machine.specs.Ranges.{PutsFirst};
 ghost use Rattle.vcpu_machine.specs.Text.{stored_by};
 
@@ -21,7 +22,7 @@ impl Text {
     ghost use Rattle.vcpu_machine.specs.Text.{text_of, after_put, if_not_put, IsText, most_after_put};
     ghost use Rattle.vcpu_machine.specs.Phase.{rest_of, IsWriting};
     ghost use Rattle.vcpu_machine.specs.Followed.{Leads, PutFollows};
-    ghost use Rattle.vcpu_machine.specs.Going.{MayGo, Goes};
+    ghost use Rattle.vcpu_machine.specs.Going.{MayGo, Performs};
 
     /// The put of the first piece of what is left of a range.
     pub(crate) fn put_first(
@@ -43,32 +44,29 @@ impl Text {
         }
     }
 
-    /// Puts the first piece of what is left of a range in a world: where the line then goes; nowhere while others are to come.
-    pub(crate) fn go<A: Access>(
+    /// Performs the put of the first piece of what is left of a range, as section `v` of a world.
+    pub(crate) fn put_in<A: Access>(
         &self,
-        alloc: Global,
         line: &Line,
-        rest: &mut Cursor,
+        rest: Cursor,
         v: u32,
         a: &mut A,
-    ) -> Result<Option<Followed>, NoMemory>
-        requires writing { IsWriting line.now rest.old self.now }
+    ) -> Result<Outcome, NoMemory>
+        requires writing { IsWriting line.now rest self.now }
         requires may { MayGo (A.actors a.old) v
-            (rest_of line.now (Phase.Writing rest.old self.now) []) }
+            (rest_of line.now (Phase.Writing rest self.now) []) }
         requires few { IsTrue (has_steps_left (A.totals a.old) v) }
-        ensures ok { IfOk result (λ followed. Goes (A.actors a.old) v line.now
-            (Phase.Writing rest.old self.now) (A.told a.old) (A.totals a.old) followed
-            (Phase.Writing rest.new self.now) (A.told a.new) (A.totals a.new)) }
-        ensures err { OnErr result (rest.new ≡ rest.old) }
+        ensures ok { IfOk result (λ o. Performs (A.actors a.old) v
+            (rest_of line.now (Phase.Writing rest self.now) []) (A.told a.old) (A.totals a.old) o
+            (A.told a.new) (A.totals a.new)) }
         ensures actors { A.actors a.new ≡ A.actors a.old }
         ensures err_told { OnErr result (A.told a.new ≡ A.told a.old) }
         ensures err_totals { OnErr result (A.totals a.new ≡ A.totals a.old) }
     {
-        let outcome = match self {
-            Text::Stored => put_part(*rest, stored(line), v, a)?,
-            Text::Answer { answer, .. } => put_part(*rest, &answer_bytes(*answer), v, a)?,
-        };
-        Ok(self.moved(alloc, line, rest, &outcome))
+        match self {
+            Text::Stored => put_part(rest, stored(line), v, a),
+            Text::Answer { answer, .. } => put_part(rest, &answer_bytes(*answer), v, a),
+        }
     }
 
     /// Where a line goes that puts, with an outcome of the first piece; nowhere while others are to come.
@@ -141,7 +139,18 @@ fn put_last(alloc: Global, rest: Cursor, bytes: &[u8]) -> Result<Action, NoMemor
 }
 
 // Puts the first piece of what is left of a range, which takes the last of the bytes.
-fn put_part<A: Access>(rest: Cursor, bytes: &[u8], v: u32, a: &mut A) -> Result<Outcome, NoMemory> {
+fn put_part<A: Access>(rest: Cursor, bytes: &[u8], v: u32, a: &mut A) -> Result<Outcome, NoMemory>
+    requires some { 0 < rest.left }
+    requires sound { IsSound rest }
+    requires size { rest.left ≤ length bytes.now }
+    requires may { MayPut (A.actors a.old) v rest bytes.now }
+    requires few { IsTrue (has_steps_left (A.totals a.old) v) }
+    ensures ok { IfOk result (λ o. Puts (A.actors a.old) v rest bytes.now (A.told a.old)
+        (A.totals a.old) o (A.told a.new) (A.totals a.new)) }
+    ensures actors { A.actors a.new ≡ A.actors a.old }
+    ensures err_told { OnErr result (A.told a.new ≡ A.told a.old) }
+    ensures err_totals { OnErr result (A.totals a.new ≡ A.totals a.old) }
+{
     let (piece, _) = rest.split_first();
     let (_, left) = bytes.split_at(bytes.len() - rest.left as usize);
     let (part, _) = left.split_at(piece.n as usize);

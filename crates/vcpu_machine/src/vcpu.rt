@@ -9,7 +9,7 @@ ghost use Rattle.vcpu_machine.specs.Phase.{takes_none};
 ghost use Rattle.vcpu_machine.specs.Vcpu.{ahead, left_of, Begins, Begun, GoesOn, Fed, TakesTurn, TakesStep, CountsIn};
 
 use crate::copies::copy_of_part;
-use crate::phase::{Followed, Phase};
+use crate::phase::Phase;
 use crate::short::short_of;
 use argo_base::NoMemory;
 use argo_model::{Access, Action, Outcome, Part, Reply, Short};
@@ -168,21 +168,16 @@ impl Vcpu {
         ensures err_told { OnErr result (A.told a.new ≡ A.told a.old) }
         ensures err_totals { OnErr result (A.totals a.new ≡ A.totals a.old) }
     {
-        let line = self.part.lines.get(self.done as usize);
-        let followed = self.phase.go(self.alloc, line, v, a)?;
+        let part = &self.part;
+        let line = part.lines.get(self.done as usize);
+        let reply = self.phase.go(self.alloc, line, v, a)?;
         self.ready = false;
-        match followed {
-            None => Ok(None),
-            Some(Followed::To(phase)) => {
-                self.phase = phase;
-                Ok(None)
-            }
-            Some(Followed::Over(reply)) => {
-                self.done += 1;
-                self.phase = phase_at(self.alloc, &self.part, self.done);
-                Ok(Some(reply))
-            }
-        }
+        let Some(reply) = reply else {
+            return Ok(None);
+        };
+        self.done += 1;
+        self.phase = phase_at(self.alloc, &self.part, self.done);
+        Ok(Some(reply))
     }
 
     /// As `turn`, with the outcome in short.

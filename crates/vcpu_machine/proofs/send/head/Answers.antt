@@ -1,7 +1,7 @@
 use Rattle.std.proofs.Common.{List, ℕ, subst, ◌≡◌, ◌*◌, true, not, refl, ap, sym, ◌∙◌, arith}
 use Rattle.argo_base.specs.declared.errno.Errno.TheVariants.{Inval, Perm, Fault}
 use Rattle.argo_base.specs.Iovs.{iovs_at, verdict_of}
-use Rattle.vcpu_machine.specs.declared.reads.Address.{Address}
+use Rattle.argo_model.specs.declared.action.Address.{Address}
 use Rattle.vcpu_machine.specs.declared.reads.SendRead.TheVariants.{Iovs}
 use Rattle.vcpu_machine.specs.declared.phase.Reader.TheVariants.{Send}
 use Rattle.vcpu_machine.specs.declared.phase.Followed.TheVariants.{To}

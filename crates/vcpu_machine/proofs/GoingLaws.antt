@@ -1,0 +1,93 @@
+-- Laws of steps over a world.
+use Rattle.std.proofs.Common.{◌≡◌, false, ℕ, Vec, Global, ◌+◌, ◌<◌, List, [], ◌∷◌, length, drop, Option, Some, None, slice_get, refl, ap, sym, ◌∙◌, subst}
+use Rattle.argo_model.specs.declared.action.Outcome.{Outcome}
+use Rattle.argo_model.specs.declared.closing.Totals.{Totals}
+use Rattle.argo_model.specs.declared.line.Line.{Line}
+use Rattle.argo_model.specs.declared.reply.Reply.{Reply}
+use Rattle.argo_model.specs.declared.scripts.Actor.{Actor}
+use Rattle.argo_model.specs.Rules.Access.{counted_at}
+use Rattle.argo_model.specs.Rules.State.{State}
+use Rattle.vcpu_machine.specs.declared.phase.Followed.{Followed}
+use Rattle.vcpu_machine.specs.declared.phase.Followed.TheVariants.{To, Over}
+use Rattle.vcpu_machine.specs.declared.phase.Phase.{Phase}
+use Rattle.vcpu_machine.specs.declared.phase.Phase.TheVariants.{Reading}
+use Rattle.vcpu_machine.specs.declared.phase.Reader.{Reader}
+use Rattle.vcpu_machine.specs.declared.cursor.Cursor.{Cursor}
+use Rattle.argo_model.specs.Programs.Asks.{collect}
+use Rattle.vcpu_machine.specs.Cursor.{pieces_left}
+use Rattle.vcpu_machine.specs.Reader.{after_read, after_fault}
+use Rattle.vcpu_machine.specs.Followed.{Follows}
+use Rattle.vcpu_machine.specs.Going.{Goes, Moves, Performs, Settles}
+use Rattle.vcpu_machine.specs.Phase.{rest_of, IsAtPhase, phase_left}
+use Rattle.vcpu_machine.specs.Vcpu.{VcpuAt, lines_left, GoesOn, Fed, TakesTurn, IsVcpu, Begins}
+use Rattle.vcpu_machine.proofs.TurnLaws.{takes_turn}
+use Rattle.vcpu_machine.proofs.VcpuLaws.{rest_here, goes_on_fed, over_fed}
+
+-- a line that goes somewhere, or stays, is moved there
+pub moves_by : (line : Line) (old stays new : Phase) (o : Outcome) (followed : Option Followed) (reply : Option Reply) → Follows line old o followed stays
+    → Settles followed stays reply new → Moves line old o reply new
+moves_by line old stays new o None reply h settled =
+    subst (λ r. Moves line old o r new) (sym settled.0)
+    (subst (λ p. Moves line old o None p) (sym settled.1) (record { feeds = h.rest; at_phase = h.ready; nearer = h.nearer }))
+moves_by line old stays new o (Some (To phase)) reply h settled =
+    subst (λ r. Moves line old o r new) (sym settled.0)
+    (subst (λ p. Moves line old o None p) (sym settled.1) (record { feeds = h.rest; at_phase = h.ready; nearer = h.nearer }))
+moves_by line old stays new o (Some (Over said)) reply h settled =
+    subst (λ r. Moves line old o r new) (sym settled) (record { feeds = h.rest; at_phase = tt; nearer = tt })
+
+-- and so the line goes on, once its action was performed
+pub goes_by : (actors : List Actor) (k : ℕ) (line : Line) (old stays new : Phase) (before after : Option State) (counted counts : List Totals) (o : Outcome)
+    (followed : Option Followed) (reply : Option Reply) → Performs actors k (rest_of line old []) before counted o after counts → Follows line old o followed stays
+    → Settles followed stays reply new → Goes actors k line old before counted reply new after counts
+goes_by actors k line old stays new before after counted counts o followed reply performs h settled =
+    (o, performs, moves_by line old stays new o followed reply h settled)
+
+-- more room for the bytes that were fetched changes nothing
+pub follows_alike : (line : Line) (c : Cursor) (got more : Vec ℕ Global) (reader : Reader) (o : Outcome) (followed : Option Followed) (stays : Phase) → more.items ≡ got.items
+    → Follows line (Reading c more reader) o followed stays → Follows line (Reading c got reader) o followed stays
+follows_alike line c got more reader o followed stays same h = record {
+  rest = λ os. ap (λ bs. collect (pieces_left c) bs (after_fault reader) (after_read reader) (o ∷ os)) (sym same) ∙ h.rest os;
+  ready = h.ready;
+  nearer = h.nearer;
+}
+
+goes_on_same : (v : VcpuAt) → GoesOn v v
+goes_on_same v = record { part = refl; done = refl; left = refl; rest = λ os. refl; stands = λ p st. st }
+
+module _ (v : VcpuAt) (line : Line) (rest : List Line) (is : IsVcpu v) (lines : lines_left v ≡ line ∷ rest) (actors : List Actor) (k : ℕ) (before after : Option State)
+    (counted counts : List Totals) (more : v.done < length v.part.lines) (section : slice_get actors k ≡ Some v.part.actor) where
+  turned_by : (o : Outcome) (reply : Option Reply) (new : VcpuAt) → Performs actors k (rest_of line v.phase []) before counted o after counts → Fed v o reply new → TakesTurn before v o reply after new
+  turned_by o reply new performs fed =
+      takes_turn v v new performs.action o reply actors k before after more section (rest_here v line rest is lines [] ∙ performs.does) (goes_on_same v) performs.acts fed
+
+  -- a step without a reply leaves the line at its phase, nearer to its end, and is a turn
+  pub goes_moves : (reply : Option Reply) (phase : Phase) → reply ≡ None → Goes actors k line v.phase before counted reply phase after counts
+      → IsAtPhase line phase × (phase_left phase < phase_left v.phase)
+  goes_moves reply phase none goes =
+      let moves = (subst (λ r. Goes actors k line v.phase before counted r phase after counts) none goes).2 in (moves.at_phase, moves.nearer)
+
+  pub goes_turn : (reply : Option Reply) (phase : Phase) → reply ≡ None → Goes actors k line v.phase before counted reply phase after counts
+      → (o : Outcome) × TakesTurn before v o None after (record { part = v.part; done = v.done; phase = phase; ready = false }) × (counts ≡ counted_at counted k o)
+  goes_turn reply phase none came =
+      let goes = subst (λ r. Goes actors k line v.phase before counted r phase after counts) none came in
+      let o = goes.0 in
+      let moves = goes.2 in (
+        o,
+        turned_by o None (record { part = v.part; done = v.done; phase = phase; ready = false }) goes.1
+            (goes_on_fed v line rest is lines o phase moves.feeds moves.at_phase moves.nearer),
+        goes.1.counts_are,
+      )
+
+  -- and so is one with which the line has its reply
+  pub over_turn : (reply : Option Reply) (said : Reply) (moved phase : Phase) → reply ≡ Some said → Goes actors k line v.phase before counted reply moved after counts
+      → rest ≡ drop (v.done + 1) v.part.lines → Begins v.part.actor (drop (v.done + 1) v.part.lines) phase
+      → (o : Outcome) × TakesTurn before v o (Some said) after (record { part = v.part; done = v.done + 1; phase = phase; ready = false }) × (counts ≡ counted_at counted k o)
+  over_turn reply said moved phase some came later begins =
+      let goes = subst (λ r. Goes actors k line v.phase before counted r moved after counts) some came in
+      let o = goes.0 in
+      let moves = goes.2 in (
+        o,
+        turned_by o (Some said) (record { part = v.part; done = v.done + 1; phase = phase; ready = false }) goes.1
+            (over_fed v line rest is lines o said phase moves.feeds later begins),
+        goes.1.counts_are,
+      )
