@@ -1,6 +1,6 @@
 use Rattle.std.proofs.Common.{◌≡◌, false, true, not, ◌&&◌, length, sym, ap, ◌∙◌}
 use Rattle.argo_base.specs.Slots.{fits, is_too_big}
-use Rattle.argo_model.specs.Rules.Deliver.{Offer, message_of, bytes_with}
+use Rattle.argo_model.specs.Rules.Deliver.{Offer}
 use Rattle.argo_model.specs.Rules.RingBytes.{paged, free, laid}
 use Rattle.flat_live.specs.Offers.{offered}
 use Rattle.flat_live.proofs.OfferLaws.{ok_in_any_case, memory_kept, refused_own, faulted_own, away_own, accepted_own}
