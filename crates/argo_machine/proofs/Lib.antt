@@ -1,5 +1,6 @@
 mod BookLaws
 mod MachineLaws
+mod OpenLaws
 mod ReplyLaws
 pub mod RunLaws
 mod StandLaws

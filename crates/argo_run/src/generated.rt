@@ -21,7 +21,7 @@ pub fn run_gen<K: Sink>(alloc: Global, n: u64, out: &mut K) -> Status
     let Ok(scripts) = gen_scripts(alloc, n) else {
         return Status::NoMemory;
     };
-    let Ok(shown) = run_scripts(alloc, n, &scripts) else {
+    let Ok(shown) = run_scripts(alloc, n, scripts) else {
         return Status::NoMemory;
     };
     match write_summary(alloc, out, &shown) {

@@ -24,20 +24,15 @@ pub fn run_serial<S: Source, K: Sink>(alloc: Global, seed: u64, src: &mut S, out
         (writing K.faults K.written out.old out.new) result }
 {
     match read_script(alloc, src) {
-        Ok(scripts) => run_picked(alloc, seed, &scripts, out),
+        Ok(scripts) => run_picked(alloc, seed, scripts, out),
         Err(unread) => refuse(alloc, out, unread),
     }
 }
 
 /// Runs a script by the picks of a seed, and writes its report.
-pub(crate) fn run_picked<K: Sink>(
-    alloc: Global,
-    seed: u64,
-    scripts: &Scripts,
-    out: &mut K,
-) -> Status
+pub(crate) fn run_picked<K: Sink>(alloc: Global, seed: u64, scripts: Scripts, out: &mut K) -> Status
     ensures count { K.faults out.old ≤ K.faults out.new }
-    ensures ends { RanScript (w.Serial seed) scripts.now
+    ensures ends { RanScript (w.Serial seed) scripts
         (writing K.faults K.written out.old out.new) result }
 {
     match run_scripts(alloc, seed, scripts) {

@@ -37,7 +37,7 @@ pub(crate) fn run_in_threads<R: Threads + Wait + Sync, S: Source, K: Sink, P: Pa
         (writing K.faults K.written out.old out.new) result }
 {
     match read_script(alloc, src) {
-        Ok(scripts) => run_beside(rt, alloc, &scripts, out, pause),
+        Ok(scripts) => run_beside(rt, alloc, scripts, out, pause),
         Err(unread) => refuse(alloc, out, unread),
     }
 }
@@ -47,18 +47,18 @@ pub(crate) fn run_in_threads<R: Threads + Wait + Sync, S: Source, K: Sink, P: Pa
 fn run_beside<R: Threads + Wait + Sync, K: Sink, P: Pause + Send + Sync>(
     rt: &R,
     alloc: Global,
-    scripts: &Scripts,
+    scripts: Scripts,
     out: &mut K,
     pause: P,
 ) -> Status
     ensures count { K.faults out.old ≤ K.faults out.new }
-    ensures ends { RanScript w.Threads scripts.now (writing K.faults K.written out.old out.new)
+    ensures ends { RanScript w.Threads scripts (writing K.faults K.written out.old out.new)
         result }
 {
     if scripts.parts.len() < LEAST_SECTIONS {
         return run_picked(alloc, 0, scripts, out);
     }
-    run_audited(rt, alloc, scripts, out, pause)
+    run_audited(rt, alloc, &scripts, out, pause)
 }
 
 // Runs a script in threads, and compares the run with the machine's.

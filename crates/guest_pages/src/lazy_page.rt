@@ -90,7 +90,8 @@ impl LazyPage {
 
     /// The bytes of the page.
     pub(crate) fn bytes<'a>(&'a self, zeros: &'a ZeroPage) -> &'a [u8]
-        ensures { result.now ≡ page_of self.now }
+        ensures value { result.now ≡ page_of self.now }
+        ensures whole { length result.now ≡ page_bytes }
     {
         match &self.frame.page {
             Some(page) => page.bytes(),

@@ -5,21 +5,14 @@ ghost use Rattle.serial_run.specs.Picks.{IsRunByPicks};
 
 use crate::picks::Picks;
 use argo_base::NoMemory;
-use argo_machine::{Machine, copy_of_scripts};
+use argo_machine::Machine;
 use argo_model::{Final, Scripts};
 use plain_world::PlainWorld;
 use std::alloc::Global;
 
 /// Runs a script by the picks of a seed: for 0 each section to its end in its turn, else one step of a section picked by a
-/// linear congruential generator. The script is copied.
-pub fn run_scripts(alloc: Global, seed: u64, scripts: &Scripts) -> Result<Final, NoMemory>
-    ensures { IfOk result (λ shown. IsRunByPicks scripts.now seed shown) }
-{
-    run_taking(alloc, seed, copy_of_scripts(alloc, scripts)?)
-}
-
-/// As `run_scripts`, of a script that is given away: none of its lines is copied.
-pub fn run_taking(alloc: Global, seed: u64, scripts: Scripts) -> Result<Final, NoMemory>
+/// linear congruential generator. The script is given away: none of its lines is copied.
+pub fn run_scripts(alloc: Global, seed: u64, scripts: Scripts) -> Result<Final, NoMemory>
     ensures { IfOk result (λ shown. IsRunByPicks scripts seed shown) }
 {
     let count = scripts.parts.len();

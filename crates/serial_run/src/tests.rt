@@ -41,12 +41,11 @@ fn two_sections(alloc: Global) -> Result<Scripts, NoMemory> {
 
 #[test]
 fn a_seed_picks_the_schedule(rt: HostRuntime) -> Result<(), Fail> {
-    let scripts = two_sections(rt.alloc())?;
     let first = Run { vcpu: 0, count: 1 };
     let second = Run { vcpu: 1, count: 1 };
-    let in_turn = run_scripts(rt.alloc(), 0, &scripts)?;
+    let in_turn = run_scripts(rt.alloc(), 0, two_sections(rt.alloc())?)?;
     assert_eq!(rt; in_turn.runs.as_slice(), [first, second].as_slice());
-    let picked = run_scripts(rt.alloc(), 3, &scripts)?;
+    let picked = run_scripts(rt.alloc(), 3, two_sections(rt.alloc())?)?;
     assert_eq!(rt; picked.runs.as_slice(), [second, first].as_slice());
     Ok(())
 }

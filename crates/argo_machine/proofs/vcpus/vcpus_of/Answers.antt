@@ -14,8 +14,7 @@ loop-part-preserved c =
     let e = c.taking.ensures in
     let P : Section → Type 0 = λ s. StandsAt x (at_first_line s) in
     let Q : Section → Type 0 = λ s. left_of x ≤ sum_by most_steps s.lines in
-    let R : Section → Type 0 = λ s. AreVcpusOf (xs ++ x ∷ []) (c.loop-part.yielded ++ s ∷ []) in
-    (
+    let R : Section → Type 0 = λ s. AreVcpusOf (xs ++ x ∷ []) (c.loop-part.yielded ++ s ∷ []) in (
       rw c.push_reserved.ensures.items (subst R e.part_is (one_more xs c.loop-part.yielded x c.loop-part.invariant.0 (subst P (sym e.part_is) e.stands) (subst Q (sym e.part_is) e.left))),
       c.push_reserved.ensures.capacity ∙ c.loop-part.invariant.1,
     )

@@ -5,5 +5,5 @@ use Rattle.argo_run.proofs.serial.run_picked.Goals as goal
 
 pub returns-in-Ok-clause-ends : goal.returns-in-Ok-clause-ends
 returns-in-Ok-clause-ends g c =
-    reported (w.Serial c.args.seed) c.args.scripts.now c.in-Ok.shown (writing g.K.Sink.faults g.K.Sink.written c.args.out.now c.report.new.out)
+    reported (w.Serial c.args.seed) c.args.scripts c.in-Ok.shown (writing g.K.Sink.faults g.K.Sink.written c.args.out.now c.report.new.out)
     c.report.result c.in-Ok.ensures c.report.ensures.ends

@@ -1,36 +1,13 @@
-use Rattle.std.proofs.Common.{◌≡◌, ℕ, ◌+◌, ◌++◌, ◌<◌, List, set, ap, sym, ◌∙◌, rules, refl, subst, Some, slice_get, length, get_or}
-use Rattle.argo_model.specs.declared.closing.DoneLine.{DoneLine}
-use Rattle.argo_model.specs.declared.closing.Run.{Run}
+use Rattle.std.proofs.Common.{◌≡◌, ◌+◌, ◌++◌, set, ap, ◌∙◌, rules, refl}
 use Rattle.argo_model.specs.Runs.Run.{step}
 use Rattle.argo_model.specs.Runs.Final.{schedule_of, grown, done_lines}
-use Rattle.vcpu_machine.specs.Vcpu.{VcpuAt}
-use Rattle.argo_machine.specs.Kept.{WorldAt, KeptAt, IsOpenIn, StaysKept}
+use Rattle.argo_machine.specs.Kept.{IsOpenIn, StaysKept}
 use Rattle.argo_machine.specs.Replies.{reply_steps}
 use Rattle.argo_machine.proofs.MachineLaws.{world_with, kept_same, advanced, keeps_along, same_world, actor_at, few_steps, counted_length}
-use Rattle.argo_machine.proofs.StandLaws.{open_at, slice_get-read, some_inside, sections-set, left-same, left-less}
+use Rattle.argo_machine.proofs.OpenLaws.{kept_with, inside, here, more}
+use Rattle.argo_machine.proofs.StandLaws.{sections-set, left-same, left-less}
 use Rattle.argo_machine.proofs.BookLaws.{schedule_of-grown}
 use Rattle.argo_machine.proofs.machine.Kept.advance.Goals as goal
-
-abbrev kept_with : List VcpuAt → WorldAt → List Run → List DoneLine → List ℕ → KeptAt
-kept_with xs w runs done ns = record { vcpus = xs; world = w; runs = runs; done = done; reply_steps = ns }
-
-inside : (k : KeptAt) (v : ℕ) → IsOpenIn k v → v < length k.vcpus
-inside k v open_in =
-    let at = open_at k.vcpus open_in.course.sections v open_in.keeps.stand open_in.unfinished in
-    some_inside k.vcpus v at.vcpu at.here
-
-here : (k : KeptAt) (v : ℕ) (x : VcpuAt) → IsOpenIn k v → x ≡ get_or k.vcpus v x → slice_get k.vcpus v ≡ Some x
-here k v x open_in read = slice_get-read k.vcpus v x (inside k v open_in) read
-
-more : (k : KeptAt) (v : ℕ) (x : VcpuAt) → IsOpenIn k v → x ≡ get_or k.vcpus v x → x.done < length x.part.lines
-more k v x open_in read =
-    let at = open_at k.vcpus open_in.course.sections v open_in.keeps.stand open_in.unfinished in
-    let same : at.vcpu ≡ x = same_some at.vcpu x (sym at.here ∙ here k v x open_in read) in
-    let P : VcpuAt → Type 0 = λ y. y.done < length y.part.lines in
-    subst P same at.more
-  where
-    same_some : (x y : VcpuAt) → Some x ≡ Some y → x ≡ y
-    same_some x y e = cc
 
 pub index_mut-vcpu-requires : goal.index_mut-vcpu-requires
 index_mut-vcpu-requires g c =

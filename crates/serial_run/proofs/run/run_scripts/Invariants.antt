@@ -5,7 +5,7 @@ use Rattle.argo_model.specs.Runs.Run.{run}
 use Rattle.serial_run.specs.declared.picks.Picks.{Picks}
 use Rattle.argo_base.specs.Generator.{number_after}
 use Rattle.serial_run.specs.Picks.{open_sections, EachIsPick}
-use Rattle.serial_run.proofs.run.run_taking.Given as goal
+use Rattle.serial_run.proofs.run.run_scripts.Given as goal
 
 -- the schedule so far is of picks, the generator has turned once for each, and the sections listed are those open next
 pub record IsPicked (script : Script) (seed count : ℕ) (m : Standing) (picks : Picks) (vcpus : Vec ℕ Global) : Type 0 where

@@ -7,7 +7,7 @@ use Rattle.serial_run.specs.Picks.{open_sections, EachIsPick}
 use Rattle.serial_run.proofs.PickLaws.{all_finished, picked-open, one-more, number-turned, pick-made, ready-of, zero-where, none-left, open-where}
 use Rattle.serial_run.proofs.OpenLaws.{still_open}
 use Rattle.argo_machine.proofs.RunLaws.{few_sections}
-use Rattle.serial_run.proofs.run.run_taking.Goals as goal
+use Rattle.serial_run.proofs.run.run_scripts.Goals as goal
 
 pub steps-init : goal.steps-init
 steps-init c =
