@@ -8,7 +8,7 @@ ghost use Rattle.argo_model.specs.Rules.Fit.{is_fit_load};
 ghost use Rattle.argo_model.specs.Rules.Messages.{room_of};
 ghost use Rattle.argo_model.specs.Rules.RingBytes.{paged, free, laid};
 ghost use Rattle.flat_live.specs.Memory.{are_there};
-ghost use Rattle.flat_live.specs.Offers.{turned_away, offered};
+ghost use Rattle.flat_live.specs.Offers.{IfBody, turned_away, offered};
 
 use crate::memory::write_tx;
 use crate::ring::Ring;

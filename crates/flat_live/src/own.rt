@@ -1,5 +1,6 @@
 //! Acts of a domain on its own memory, flag and rings.
 ghost use Rattle.std.specs.Prelude.{◌≡◌, ◌+◌, ◌≤◌, length, nat_lt, ◌/◌, IfOk, IfSome, IfNone};
+ghost use Rattle.argo_model.specs.declared.action.Outcome.TheVariants.{Bytes, Fault};
 ghost use Rattle.argo_model.specs.Rules.Act as acts;
 ghost use Rattle.argo_model.specs.Rules.Effects.{after};
 ghost use Rattle.live_domain.specs.Own.{take_away};
@@ -16,9 +17,9 @@ impl Live {
     pub(crate) fn shown(&self, piece: Piece) -> Option<&[u8]>
         requires { piece.off + piece.n ≤ 4096 }
         ensures some { IfSome result
-            (λ bytes. acts.fetch self.now piece.page piece.off piece.n ≡ Outcome.Bytes bytes.now) }
+            (λ bytes. acts.fetch self.now piece.page piece.off piece.n ≡ Bytes bytes.now) }
         ensures none { IfNone result
-            (acts.fetch self.now piece.page piece.off piece.n ≡ Outcome.Fault) }
+            (acts.fetch self.now piece.page piece.off piece.n ≡ Fault) }
     {
         let memory = self.bytes.as_slice();
         if !is_there(memory, piece.page) {

@@ -1,6 +1,5 @@
 -- Laws of what a fetch finds.
-use Rattle.std.proofs.Common.{◌≡◌, ℕ, ◌+◌, ◌*◌, ◌<◌, ◌≤◌, true, false, if◌then◌else◌, List, length, take, drop, Option, Some, None, option_map, refl, sym, ap, ◌∙◌}
-use Rattle.std.proofs.lemmas.Option.{same_Some, none-some}
+use Rattle.std.proofs.Common.{◌≡◌, ℕ, ◌+◌, ◌*◌, ◌<◌, ◌≤◌, true, false, if◌then◌else◌, List, length, take, drop, Option, Some, None, IfNone, refl, sym, ap, ◌∙◌}
 use Rattle.argo_base.specs.declared.ring_key.RingKey.{RingKey}
 use Rattle.argo_model.specs.Rules.State.{Live, has_page}
 use Rattle.argo_model.specs.Rules.Act as acts
@@ -13,6 +12,11 @@ use Rattle.paged_live.specs.Parts.{Parts, store_of, seen, IsParts}
 use Rattle.paged_live.proofs.StoreLaws.{alone_is, lent_is, no_page}
 use Rattle.paged_live.proofs.PartsLaws.{Found, found_stood}
 use Rattle.paged_live.proofs.SizeLaws.{page_is_there, inside_is, part_of, memory_part}
+
+-- what holds in any case holds where there is none
+pub none_in_any_case : {T P : Type 0} (o : Option T) → P → IfNone o P
+none_in_any_case None p = p
+none_in_any_case (Some x) p = tt
 
 pub fetch_there : (live : Live) (page off n : ℕ) → has_page live page ≡ true → acts.fetch live page off n ≡ Bytes (take n (drop (4096 * page + off) live.bytes))
 fetch_there live page off n there = ap (λ t. if t then Bytes (take n (drop (4096 * page + off) live.bytes)) else Fault) there
@@ -41,18 +45,3 @@ fetch_lent x is page off n place key a f fit lent =
     ∙ ap (λ p. Bytes (take n (drop off p))) (sym (lent_is (store_of x) page (home key place) (paged f.serial a) none lent (found_stood x.rows key a f)))
     ∙ ap Bytes (sym (memory_part x is page off n below fit))
     ∙ sym (fetch_there (seen x) page off n there)
-
-pub fetch_some : (x : Parts) → IsParts x → (page off n : ℕ) (bytes : List ℕ) → off + n ≤ 4096 → option_map (λ p. take n (drop off p)) (page_at x.private page) ≡ Some bytes
-    → Bytes bytes ≡ acts.fetch (seen x) page off n
-fetch_some x is page off n bytes fit found = by (page_at x.private page) refl found where
-  by : (o : Option (List ℕ)) → page_at x.private page ≡ o → option_map (λ p. take n (drop off p)) o ≡ Some bytes → Bytes bytes ≡ acts.fetch (seen x) page off n
-  by None at found = cc
-  by (Some b) at found = ap Bytes (sym (same_Some (take n (drop off b)) bytes found)) ∙ fetch_alone x is page off n b fit at
-
-pub fetch_none : (x : Parts) (page off n : ℕ) → option_map (λ p. take n (drop off p)) (page_at x.private page) ≡ None → page_at x.private page ≡ None
-fetch_none x page off n none = by (page_at x.private page) none where
-  by : (o : Option (List ℕ)) → option_map (λ (p : List ℕ). take n (drop off p)) o ≡ None → o ≡ None
-  by None h = refl
-  by (Some b) h = absurd (none-some (take n (drop off b)) (sym h))
-
--- a row that is not found

@@ -57,7 +57,7 @@ pub returns-clause-left : goal.returns-clause-left
 returns-clause-left c =
     let i = c.self.inside in
     let x : Live = record { bytes = i.bytes; flag = i.flag; next_serial = i.next_serial; rings = i.rings.entries } in
-    let o = c.args.sent in
+    let o = c.args.sent.now in
     let to = c.args.to in
     let key = c.match_key-key.result in
     let r = c.in-Some.ring.now in

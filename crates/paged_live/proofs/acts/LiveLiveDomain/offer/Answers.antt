@@ -11,7 +11,7 @@ use Rattle.paged_live.proofs.acts.LiveLiveDomain.offer.Goals as goal
 pub returns-in_default-clause-outcome : goal.returns-in_default-clause-outcome
 returns-in_default-clause-outcome c =
     let i = c.self.inside in
-    let o = c.args.sent in
+    let o = c.args.sent.now in
     let x : Parts = record { private = i.private; homes = i.homes.items; flag = i.flag; next_serial = i.next_serial; rows = i.rings } in
     let none = match_none x.rows c.args.to_port o.sender c.match_key-key.result (c.match_key-key.ensures ∙ ap (λ (o : Offer). match_of x.rows c.args.to_port o.sender) c.sent.view_is) (sym c.find_exact_mut.ensures.value ∙ ap option_copied_mut c.in_default.is) in
     ap (λ m. (offer_to_match (seen x) c.args._to o m).outcome) (sym none)
@@ -20,7 +20,7 @@ returns-in_default-clause-outcome c =
 pub returns-in_default-clause-left : goal.returns-in_default-clause-left
 returns-in_default-clause-left c =
     let i = c.self.inside in
-    let o = c.args.sent in
+    let o = c.args.sent.now in
     let x : Parts = record { private = i.private; homes = i.homes.items; flag = i.flag; next_serial = i.next_serial; rows = i.rings } in
     let none = match_none x.rows c.args.to_port o.sender c.match_key-key.result (c.match_key-key.ensures ∙ ap (λ (o : Offer). match_of x.rows c.args.to_port o.sender) c.sent.view_is) (sym c.find_exact_mut.ensures.value ∙ ap option_copied_mut c.in_default.is) in
     ap (λ m. after (seen x) (offer_to_match (seen x) c.args._to o m)) (sym none)
@@ -54,7 +54,7 @@ invariant_of-self-2 c =
 pub returns-clause-outcome : goal.returns-clause-outcome
 returns-clause-outcome c =
     let i = c.self.inside in
-    let o = c.args.sent in
+    let o = c.args.sent.now in
     let key = c.match_key-key.result in
     let x : Parts = record { private = i.private; homes = i.homes.items; flag = i.flag; next_serial = i.next_serial; rows = i.rings } in
     let a = c.in-Some.ring.now in
@@ -68,7 +68,7 @@ returns-clause-outcome c =
 pub returns-clause-left : goal.returns-clause-left
 returns-clause-left c =
     let i = c.self.inside in
-    let o = c.args.sent in
+    let o = c.args.sent.now in
     let key = c.match_key-key.result in
     let x : Parts = record { private = i.private; homes = i.homes.items; flag = i.flag; next_serial = i.next_serial; rows = i.rings } in
     let a = c.in-Some.ring.now in

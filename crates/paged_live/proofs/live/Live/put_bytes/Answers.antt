@@ -10,7 +10,7 @@ use Rattle.paged_live.specs.Parts.{Parts, seen, store_of, IsParts}
 use Rattle.paged_live.proofs.JoinLaws.{alone_at}
 use Rattle.paged_live.proofs.PartsLaws.{found_value, changed_parts, with_ring}
 use Rattle.paged_live.proofs.PutLaws.{none_of, unwritten, home_stands, absent, written_parts, written_seen, put_seen, lent_at, stays_absent, fault_absent, done_put, done_written}
-use Rattle.paged_live.proofs.live.Live.put.Goals as goal
+use Rattle.paged_live.proofs.live.Live.put_bytes.Goals as goal
 
 pub invariant_of-self : goal.invariant_of-self
 invariant_of-self c =

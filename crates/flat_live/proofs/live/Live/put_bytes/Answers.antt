@@ -2,7 +2,7 @@ use Rattle.std.proofs.Common.{◌≡◌, ◌+◌, ◌/◌, ◌∙◌, IsTrue, le
 use Rattle.argo_base.proofs.SpliceLaws.{length-splice}
 use Rattle.flat_live.specs.Memory.{stand_in}
 use Rattle.flat_live.proofs.LiveLaws.{put_stands}
-use Rattle.flat_live.proofs.live.Live.put.Goals as goal
+use Rattle.flat_live.proofs.live.Live.put_bytes.Goals as goal
 
 pub invariant_of-self : goal.invariant_of-self
 invariant_of-self c =
