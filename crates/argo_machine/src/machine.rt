@@ -1,6 +1,6 @@
 //! The machine and what it keeps of a run.
 
-ghost use Rattle.std.specs.Prelude.{◌≡◌, ◌<◌, ◌^◌, ◌↔◌, [], false, IfOk, OnErr, IsTrue, option_map, slice_get};
+ghost use Rattle.std.specs.Prelude.{OnOk, ◌≡◌, ◌<◌, ◌^◌, ◌↔◌, [], false, IfOk, OnErr, IsTrue, option_map, slice_get};
 ghost use Rattle.std.specs.List.{list_all};
 ghost use Rattle.argo_model.specs.Runs.Run.{run, is_open, is_finished, IsComplete};
 ghost use Rattle.argo_model.specs.Runs.Final.{final_of};

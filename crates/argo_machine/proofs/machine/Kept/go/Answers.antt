@@ -68,7 +68,7 @@ steps-step-requires g c =
     let k = kept_with m.vcpus.items (world_with (g.W.Access.told m.world) (g.W.Access.actors m.world) (g.W.Access.totals m.world)) m.books.runs.items m.books.done.items m.books.reply_steps.items in
     let open_in : IsOpenIn k c.args.v = rw (← c.self.view_is) at c.requires in
     let e = c.in_ok-reply.ensures.ok in
-    rw e.1.1 (counted_length k.vcpus k.world k.runs k.done k.reply_steps open_in.course c.args.v
+    rw e.2 (counted_length k.vcpus k.world k.runs k.done k.reply_steps open_in.course c.args.v
     e.0 (inside k c.args.v open_in) open_in.keeps)
 
 pub returns-clause-ok : goal.returns-clause-ok
@@ -84,7 +84,7 @@ returns-clause-ok g c =
     let at = here k v x open_in c.index_mut-vcpu.ensures.value in
     let e = c.in_ok-reply.ensures in
     let o = e.ok.0 in
-    let turned = e.ok.1.0 in
+    let turned = e.ok.1 in
     let reply = c.in_ok-reply.reply in
     let n = c.steps-step.result in
     let books = c.in_ok-reserve.ensures.same in
@@ -103,7 +103,7 @@ returns-clause-ok g c =
         nearer = left-less xs v x new at turned.nearer;
         course = λ course keeps.
             let a = advanced xs k.world after k.runs k.done k.reply_steps v n x new o reply
-            at turned e.actors e.ok.1.1 c.steps-step.ensures course keeps in (
+            at turned e.actors e.ok.2 c.steps-step.ensures course keeps in (
               keeps_along (set xs v new) (set xs v new) after after (grown k.runs v) c.note.new.self.runs.items
                   (k.done ++ done_lines v (x.done + 1) reply) c.note.new.self.done.items
                   (k.reply_steps ++ reply_steps n reply) c.note.new.self.reply_steps.items (step course v)
