@@ -72,15 +72,15 @@ fn vcpu_act<D: DomainActs>(
             to,
             to_port,
             kind,
-            load,
+            mut load,
         } => {
-            let mut sent = Offer {
-                sender: dom,
+            let at = Address {
                 port,
+                to,
+                to_port,
                 kind,
-                load,
             };
-            domains.deliver(alloc, generation, to, to_port, &mut sent)
+            deliver(domains, alloc, caller, at, &mut load)
         }
         Action::Query { to, to_port, need } => domains.query(alloc, caller, to, to_port, need),
         Action::Destroy { .. } | Action::Reset { .. } | Action::Create { .. } => {
