@@ -26,8 +26,8 @@ steps-init c =
       room = let e = c.in_ok-vcpus.ensures in omega (arith, e.capacity, c.list_open.ensures.room);
     }
 
-pub step-requires : goal.step-requires
-step-requires c =
+pub go-requires : goal.go-requires
+go-requires c =
     let s = c.args.scripts in
     let seed = c.args.seed in
     let before = c.steps.machine.schedule in
@@ -45,7 +45,7 @@ steps-preserved-then-finished c =
     let seed = c.args.seed in
     let before = c.steps.machine.schedule in
     let stood = c.steps.invariant in
-    let ok = c.in_ok-step.ensures.ok in
+    let ok = c.in_ok-go.ensures.ok.1 in
     let v = c.index-v.result.now in
     let number = c.next_place.new.self.number in
     record {
@@ -56,9 +56,9 @@ steps-preserved-then-finished c =
           (pick-made s seed c.steps.picks.seed c.steps.picks.number number c.next_place.result c.len.result v before c.steps.vcpus.items
           stood.turned c.next_place.ensures.number stood.seeded stood.ready (c.len.ensures ∙ c.steps.vcpus.ok.0) c.next_place.ensures.place c.next_place.ensures.inside
           c.index-v.ensures));
-      turned = number-turned seed c.steps.picks.number number v before c.step.new.self.schedule stood.turned c.next_place.ensures.number ok.schedule;
+      turned = number-turned seed c.steps.picks.number number v before c.go.new.self.schedule stood.turned c.next_place.ensures.number ok.schedule;
       seeded = c.next_place.ensures.seed ∙ stood.seeded;
-      ready = ready-of s c.step.new.self.script c.step.new.self.schedule c.len-count.result c.list_open-then-finished.new.vcpus.items (ok.script ∙ stood.same) stood.counted
+      ready = ready-of s c.go.new.self.script c.go.new.self.schedule c.len-count.result c.list_open-then-finished.new.vcpus.items (ok.script ∙ stood.same) stood.counted
           c.list_open-then-finished.ensures.open;
       counted = stood.counted;
       room = omega (arith, stood.room, c.list_open-then-finished.ensures.room);
@@ -70,10 +70,10 @@ steps-preserved c =
     let seed = c.args.seed in
     let before = c.steps.machine.schedule in
     let stood = c.steps.invariant in
-    let ok = c.in_ok-step.ensures.ok in
+    let ok = c.in_ok-go.ensures.ok.1 in
     let v = c.index-v.result.now in
     let number = c.next_place.new.self.number in
-    let m = c.step.new.self in
+    let m = c.go.new.self in
     let was =
     picked-open s seed before v
     (pick-made s seed c.steps.picks.seed c.steps.picks.number number c.next_place.result c.len.result v before c.steps.vcpus.items
@@ -91,7 +91,7 @@ steps-preserved c =
           (pick-made s seed c.steps.picks.seed c.steps.picks.number number c.next_place.result c.len.result v before c.steps.vcpus.items
           stood.turned c.next_place.ensures.number stood.seeded stood.ready (c.len.ensures ∙ c.steps.vcpus.ok.0) c.next_place.ensures.place c.next_place.ensures.inside
           c.index-v.ensures));
-      turned = number-turned seed c.steps.picks.number number v before c.step.new.self.schedule stood.turned c.next_place.ensures.number ok.schedule;
+      turned = number-turned seed c.steps.picks.number number v before c.go.new.self.schedule stood.turned c.next_place.ensures.number ok.schedule;
       seeded = c.next_place.ensures.seed ∙ stood.seeded;
       ready = stood.ready ∙ still_open s before v was is ∙ ap (λ vs. open_sections (run s vs)) (sym ok.schedule);
       counted = stood.counted;
