@@ -1,5 +1,5 @@
 -- Laws of the world's domains: one that is found, and one that has changed.
-use Rattle.std.proofs.Common.{◌≡◌, ℕ, ◌<◌, ◌≤◌, ◌^◌, ◌==◌, ◌&&◌, Bool, true, false, not, if◌then◌else◌, unwrap_or, nat_le, IsTrue, List, [], length, Option, Some, None, IfSome, is_some, option_map, Result, Ok, Err, OnErr, refl, sym, ap, ◌∙◌, arith}
+use Rattle.std.proofs.Common.{◌≡◌, ℕ, ◌<◌, ◌≤◌, ◌^◌, ◌==◌, ◌&&◌, Bool, true, false, not, if◌then◌else◌, unwrap_or, nat_le, IsTrue, List, [], length, Option, Some, None, IfSome, is_some, option_map, Result, Ok, Err, IfOk, IfErr, OnErr, refl, sym, ap, ◌∙◌, arith}
 use Rattle.std.proofs.lemmas.Bool.{false≢true}
 use Rattle.std.proofs.lemmas.Bool.Decides.{nat_tests}
 use Rattle.std.proofs.lemmas.Map.Steps.{set_value_same}
@@ -18,6 +18,7 @@ use Rattle.argo_model.specs.Rules.RingBytes.{PagedRing, paged, free}
 use Rattle.argo_model.specs.declared.scripts.Actor.TheVariants.{Vcpu}
 use Rattle.argo_model.specs.declared.action.Action.{Action}
 use Rattle.argo_model.specs.declared.action.Action.TheVariants.{Rest, Fetch, Put, Register, Unregister, Deliver, Sweep, Query, Look, Destroy, Reset, Create}
+use Rattle.argo_model.specs.declared.action.Outcome.{Outcome}
 use Rattle.argo_model.specs.declared.action.Outcome.TheVariants.{Done, Fault, Refused, Answer as Answered}
 use Rattle.argo_model.specs.Rules.State.{State, Domain, Live, Ring, domain_of, set_domain, life_in, signal_all, change_found, is_alive, is_on, has_page}
 use Rattle.argo_model.specs.Rules.Act.{act, act_of, act_if_there, act_if_live, put}
@@ -71,6 +72,17 @@ own_acts s d generation x a own there = ap (λ o. act_if_there s d generation o 
   by : (life : Option Live) → act_if_live s d x life a ≡ change_in s d (own_if_live x.on life a)
   by None = refl
   by (Some live) = own_lives s d x live a own
+
+-- an act that changes nothing: a value shows its outcome, or an error does
+pub value_acts : {T E : Type 0} (r : Result T E) (f : T → Outcome) (s : State) (d generation : ℕ) (x : Domain) (a : Action) → IsTrue (is_own a) → domain_of s d ≡ Some x
+    → IfOk r (λ v. own_if_live x.on (life_in generation x) a ≡ answered (f v)) → IfOk r (λ v. act (Vcpu d generation) a s ≡ record { outcome = f v; state = s })
+value_acts (Ok v) f s d generation x a own there is = own_acts s d generation x a own there ∙ ap (change_in s d) is
+value_acts (Err e) f s d generation x a own there is = tt
+
+pub error_acts : {T E : Type 0} (r : Result T E) (f : E → Outcome) (s : State) (d generation : ℕ) (x : Domain) (a : Action) → IsTrue (is_own a) → domain_of s d ≡ Some x
+    → IfErr r (λ e. own_if_live x.on (life_in generation x) a ≡ answered (f e)) → IfErr r (λ e. act (Vcpu d generation) a s ≡ record { outcome = f e; state = s })
+error_acts (Ok v) f s d generation x a own there is = tt
+error_acts (Err e) f s d generation x a own there is = own_acts s d generation x a own there ∙ ap (change_in s d) is
 
 -- it signals nobody
 put_quiet : (live : Live) (page off : ℕ) (bytes : List ℕ) → (put live page off bytes).signals ≡ []

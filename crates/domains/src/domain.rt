@@ -82,10 +82,10 @@ impl<L: LiveDomain> Domain<L> {
         let Some(live) = &self.life else {
             return Err(Unseen::Gone);
         };
-        match live.seen(piece) {
-            Some(bytes) => Ok(bytes),
-            None => Err(Unseen::Fault),
-        }
+        let Some(bytes) = live.seen(piece) else {
+            return Err(Unseen::Fault);
+        };
+        Ok(bytes)
     }
 
     /// Puts bytes into a page, where the domain lives in this generation.
@@ -109,7 +109,8 @@ impl<L: LiveDomain> Domain<L> {
         let Some(live) = &mut self.life else {
             return Ok(Outcome::Gone);
         };
-        live.put(page, off, bytes)
+        let outcome = live.put(page, off, bytes)?;
+        Ok(outcome)
     }
 
     /// Sweeps the domain's next ring, where it lives in this generation. Where memory runs out all stays.

@@ -50,10 +50,10 @@ impl<L: LiveDomain> Domains<L> {
         ensures unseen { IfErr result (λ u. act (Vcpu dom generation) (fetch_of piece) self.now
             ≡ record { outcome = outcome_unseen u; state = self.now }) }
     {
-        match self.domains.get(&dom) {
-            Some(domain) => domain.seen(generation, piece),
-            None => Err(Unseen::Gone),
-        }
+        let Some(domain) = self.domains.get(&dom) else {
+            return Err(Unseen::Gone);
+        };
+        domain.seen(generation, piece)
     }
 
     /// A caller puts bytes into a page. Where memory runs out all stay.
@@ -74,7 +74,8 @@ impl<L: LiveDomain> Domains<L> {
         let Some(domain) = self.domains.get_mut(&dom) else {
             return Ok(Outcome::Gone);
         };
-        domain.put(generation, page, off, bytes)
+        let outcome = domain.put(generation, page, off, bytes)?;
+        Ok(outcome)
     }
 
     /// A caller sweeps its next ring. Where memory runs out all stay.

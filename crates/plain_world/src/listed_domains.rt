@@ -69,7 +69,8 @@ impl<L: KeyedRings> DomainActs for ListedDomains<L> {
         off: u32,
         bytes: &[u8],
     ) -> Result<Outcome, NoMemory> {
-        self.domains.put(caller, page, off, bytes)
+        let outcome = self.domains.put(caller, page, off, bytes)?;
+        Ok(outcome)
     }
 
     fn register(

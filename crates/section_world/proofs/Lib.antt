@@ -1,3 +1,4 @@
 pub mod YoungLaws
 pub mod OutcomeLaws
 pub mod SectionLaws
+pub mod StepLaws

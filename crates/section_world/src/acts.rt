@@ -1,15 +1,17 @@
 //! Each action of a section, in the state.
 ghost use Rattle.std.specs.Prelude.{◌≡◌, ◌^◌, IsTrue, IfOk, OnErr};
 ghost use Rattle.argo_model.specs.declared.scripts.Actor.TheVariants.{Vcpu};
+ghost use Rattle.argo_model.specs.Rules.Access.{delivered_to};
 ghost use Rattle.argo_model.specs.Rules.Act as rules;
 ghost use Rattle.argo_model.specs.Rules.Fit.{is_fit};
 ghost use Rattle.section_world.specs.Young.{IsYoung};
 
 use crate::DomainActs;
 use argo_base::{DomId, NoMemory, RingKey};
-use argo_model::{Action, Actor, Outcome};
+use argo_model::{Action, Actor, Address, Load, Outcome};
 use live_domain::{Offer, Registration};
 use std::alloc::Global;
+use std::mem;
 
 /// Performs an action of a section. Where memory runs out the state stays.
 pub fn act<D: DomainActs>(
@@ -70,15 +72,15 @@ fn vcpu_act<D: DomainActs>(
             to,
             to_port,
             kind,
-            load,
+            mut load,
         } => {
-            let mut sent = Offer {
-                sender: dom,
+            let at = Address {
                 port,
+                to,
+                to_port,
                 kind,
-                load,
             };
-            domains.deliver(alloc, generation, to, to_port, &mut sent)
+            deliver(domains, alloc, caller, at, &mut load)
         }
         Action::Query { to, to_port, need } => domains.query(alloc, caller, to, to_port, need),
         Action::Destroy { .. } | Action::Reset { .. } | Action::Create { .. } => {
@@ -88,6 +90,37 @@ fn vcpu_act<D: DomainActs>(
             control_act(domains, alloc, action)
         }
         _ => domains.own_act(alloc, dom, generation, action),
+    }
+}
+
+/// A caller, of a domain and a generation, delivers a load, which is taken. Where memory runs out all stay, the load too.
+pub(crate) fn deliver<D: DomainActs>(
+    domains: &mut D,
+    alloc: Global,
+    caller: (DomId, u32),
+    at: Address,
+    load: &mut Load,
+) -> Result<Outcome, NoMemory>
+    requires { IsTrue (is_fit (delivered_to at load.old)) }
+    ensures ok { IfOk result
+        (λ o. rules.act (Vcpu caller.0 caller.1) (delivered_to at load.old) (D.state domains.old)
+        ≡ record { outcome = o; state = D.state domains.new }) }
+    ensures err { OnErr result (D.state domains.new ≡ D.state domains.old) }
+    ensures err_load { OnErr result (load.new ≡ load.old) }
+{
+    let (dom, generation) = caller;
+    let mut sent = Offer {
+        sender: dom,
+        port: at.port,
+        kind: at.kind,
+        load: mem::replace(load, Load::Faulted(0)),
+    };
+    match domains.deliver(alloc, generation, at.to, at.to_port, &mut sent) {
+        Ok(outcome) => Ok(outcome),
+        Err(e) => {
+            *load = mem::replace(&mut sent.load, Load::Faulted(0));
+            Err(e)
+        }
     }
 }
 

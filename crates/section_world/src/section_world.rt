@@ -8,16 +8,14 @@ ghost use Rattle.argo_model.specs.Runs.Final.{final_domain, no_steps, totals_aft
 ghost use Rattle.section_world.specs.Sections.{IsSmall};
 
 use crate::DomainActs;
-use crate::acts::act;
+use crate::acts::{act, deliver};
 use argo_base::{NoMemory, Piece};
 use argo_model::{
     Access, Action, Actor, Address, ClosedDomains, FinalDomains, Load, Outcome, Part, Scripts,
     SerialWorld, TotalList, Totals, Unseen,
 };
-use live_domain::Offer;
 use std::alloc::Global;
 use std::marker::Model;
-use std::mem;
 
 /// The world of a script over its domains. It tells its state: contracts see that, who the sections are, and what each has done.
 #[derive(Drop)]
@@ -68,18 +66,16 @@ impl<D: DomainActs> Access for SectionWorld<D> {
     }
 
     fn count(&mut self, v: u32) {
-        self.totals[v as usize].steps += 1;
+        count(&mut self.totals[v as usize], &Outcome::Done);
     }
 
     fn put(&mut self, v: u32, page: u64, off: u32, bytes: &[u8]) -> Result<Outcome, NoMemory> {
         let place = v as usize;
-        let outcome = match self.actors[place] {
-            Actor::Vcpu(dom, generation) => {
-                self.domains.put((dom, generation), page, off, bytes)?
-            }
-            Actor::Control => Outcome::Gone,
+        let Actor::Vcpu(dom, generation) = self.actors[place] else {
+            return Ok(Outcome::Gone);
         };
-        self.totals[place].steps += 1;
+        let outcome = self.domains.put((dom, generation), page, off, bytes)?;
+        count(&mut self.totals[place], &outcome);
         Ok(outcome)
     }
 
@@ -88,27 +84,10 @@ impl<D: DomainActs> Access for SectionWorld<D> {
         let Actor::Vcpu(dom, generation) = self.actors[place] else {
             return Ok(Outcome::Gone);
         };
-        let mut sent = Offer {
-            sender: dom,
-            port: at.port,
-            kind: at.kind,
-            load: mem::replace(load, Load::Faulted(0)),
-        };
-        let alloc = self.alloc;
-        let delivered = self
-            .domains
-            .deliver(alloc, generation, at.to, at.to_port, &mut sent);
-        match delivered {
-            Ok(outcome) => {
-                count(&mut self.totals[place], &outcome);
-                Ok(outcome)
-            }
-            Err(e) => {
-                let Offer { load: back, .. } = sent;
-                *load = back;
-                Err(e)
-            }
-        }
+        let caller = (dom, generation);
+        let outcome = deliver(&mut self.domains, self.alloc, caller, at, load)?;
+        count(&mut self.totals[place], &outcome);
+        Ok(outcome)
     }
 }
 

@@ -13,7 +13,7 @@ returns-clause-left g c =
     let x : Domain = record { on = i.on; pages = i.pages; generation = i.generation; life = option_map g.L.LiveDomain.live i.life } in
     let to = c.args.to in
     let port = c.args.to_port in
-    let o = c.args.sent in
+    let o = c.args.sent.now in
     let live = g.L.LiveDomain.live c.in-Some.live in
     let lives : x.life ≡ Some live = ap (option_map g.L.LiveDomain.live) c.in-Some.is in
     let on : x.on ≡ true = c.if-not-self.false in

@@ -15,7 +15,7 @@ use Rattle.domains.proofs.domains.Domains.deliver.Goals as goal
 pub returns-in_default-get_mut-clause-ok : goal.returns-in_default-get_mut-clause-ok
 returns-in_default-get_mut-clause-ok g c =
     let s = c.args.self.now in
-    let o = c.args.sent in
+    let o = c.args.sent.now in
     let to = c.args.to in
     let port = c.args.to_port in
     let absent : domain_of s to ≡ None = ap (λ s. domain_of s to) (sym c.self.view_is) ∙ sym c.get_mut.ensures.value ∙ ap option_copied_mut c.in_default-get_mut.is in
@@ -39,7 +39,7 @@ returns-in_err-outcome-clause-err g c =
 pub returns-clause-ok : goal.returns-clause-ok
 returns-clause-ok g c =
     let s = c.args.self.now in
-    let o = c.args.sent in
+    let o = c.args.sent.now in
     let to = c.args.to in
     let port = c.args.to_port in
     let x = c.in-Some-get_mut.receiver.now in

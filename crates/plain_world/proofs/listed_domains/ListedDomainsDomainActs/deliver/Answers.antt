@@ -16,7 +16,7 @@ pub invariant_of-self-then-not-is_any : goal.invariant_of-self-then-not-is_any
 invariant_of-self-then-not-is_any g c =
     let i = c.self.inside in
     let w : Levels = record { state = i.domains; sends = i.sends; waits = i.waits } in
-    let o = c.args.sent in
+    let o = c.args.sent.now in
     let d = o.sender in
     let g = c.args.generation in
     let a = Deliver o.port c.args.to c.args.to_port o.kind o.load in
@@ -33,7 +33,7 @@ pub invariant_of-self-2 : goal.invariant_of-self-2
 invariant_of-self-2 g c =
     let i = c.self.inside in
     let w : Levels = record { state = i.domains; sends = i.sends; waits = i.waits } in
-    let o = c.args.sent in
+    let o = c.args.sent.now in
     let d = o.sender in
     let g = c.args.generation in
     let a = Deliver o.port c.args.to c.args.to_port o.kind o.load in

@@ -1,14 +1,6 @@
-use Rattle.std.proofs.Common.{◌≡◌, ◌<◌, ◌^◌, set, slice_get, IsTrue, Option, Some, sym, ap, ◌∙◌, subst}
-use Rattle.argo_model.specs.declared.scripts.Actor.{Actor}
-use Rattle.argo_model.specs.declared.action.Outcome.{Outcome}
-use Rattle.argo_model.specs.declared.closing.Totals.{Totals}
-use Rattle.argo_model.specs.Rules.Access.{ActsAt}
-use Rattle.argo_model.specs.Rules.Fit.{is_fit_for}
-use Rattle.argo_model.specs.Rules.Outcomes.{can_have}
-use Rattle.argo_model.specs.Rules.State.{State}
-use Rattle.section_world.specs.Sections.{WorldAt, IsSmall, IsWorld}
-use Rattle.section_world.proofs.SectionLaws.{young_enough, ActsAs, acts_as, HasDone, has_done, inside_of, read_is, at_read, counted, after_step}
-use Rattle.section_world.proofs.OutcomeLaws.{act_can_have}
+use Rattle.section_world.specs.Sections.{WorldAt}
+use Rattle.section_world.proofs.SectionLaws.{young_enough}
+use Rattle.section_world.proofs.StepLaws.{is_inside, is_small, are_few, is_counted, still_world, can_be, acts_in}
 use Rattle.section_world.proofs.section_world.SectionWorldAccess.act.Goals as goal
 
 pub act-requires-clause-young : goal.act-requires-clause-young
@@ -19,59 +11,36 @@ act-requires-clause-young g c =
 pub index_mut-requires : goal.index_mut-requires
 index_mut-requires g c =
     let m = c.self.inside in
-    let done : HasDone m.totals.items c.args.v = has_done m.totals.items c.args.v (rw (← c.self.view_is) at c.requires.few) in
-    rw m.totals.ok.0 (inside_of m.totals.items c.args.v done.done done.here)
+    rw m.totals.ok.0 (is_inside m.totals.items c.args.v (rw (← c.self.view_is) at c.requires.few))
 
 pub count-requires-clause-small : goal.count-requires-clause-small
 count-requires-clause-small g c =
     let m = c.self.inside in
-    let t = c.index_mut.result.now in
-    let done : HasDone m.totals.items c.args.v = has_done m.totals.items c.args.v (rw (← c.self.view_is) at c.requires.few) in
-    subst IsSmall (sym c.index_mut.ensures.value) (c.self.invariant.small c.args.v t (inside_of m.totals.items c.args.v done.done done.here))
+    is_small m.totals.items c.args.v c.index_mut.result.now (rw (← c.self.view_is) at c.requires.few) c.index_mut.ensures.value c.self.invariant.small
 
 pub count-requires-clause-few : goal.count-requires-clause-few
 count-requires-clause-few g c =
     let m = c.self.inside in
-    let t = c.index_mut.result.now in
-    let done : HasDone m.totals.items c.args.v = has_done m.totals.items c.args.v (rw (← c.self.view_is) at c.requires.few) in
-    let P : Totals → Type 0 = λ x. x.steps < 2 ^ 32 in
-    subst P (sym (read_is m.totals.items c.args.v done.done t done.here c.index_mut.ensures.value)) done.few
+    are_few m.totals.items c.args.v c.index_mut.result.now (rw (← c.self.view_is) at c.requires.few) c.index_mut.ensures.value
 
 pub invariant_of-self-2 : goal.invariant_of-self-2
 invariant_of-self-2 g c =
     let m = c.self.inside in
     let w : WorldAt = record { state = g.D.DomainActs.state m.domains; actors = m.actors.items; totals = m.totals.items } in
-    let t = c.index_mut.result.now in
-    let done : HasDone m.totals.items c.args.v = has_done m.totals.items c.args.v (rw (← c.self.view_is) at c.requires.few) in
-    let here = at_read m.totals.items c.args.v t (inside_of m.totals.items c.args.v done.done done.here) c.index_mut.ensures.value in
-    let P : State → Type 0 = λ s. IsWorld (record { state = s; actors = m.actors.items; totals = set m.totals.items c.args.v c.count.new.totals }) in
-    subst P (ap (λ e. e.state) c.in_ok-outcome.ensures.ok)
-    (after_step w c.args.v t c.count.new.totals c.index.result.now c.args.a c.in_ok-outcome.outcome c.self.invariant here c.count.ensures.small c.count.ensures.is)
+    still_world w c.args.v c.index_mut.result.now c.count.new.totals c.index.result.now c.args.a c.in_ok-outcome.outcome (g.D.DomainActs.state c.act.new.domains) c.self.invariant (rw (← c.self.view_is) at c.requires.few) c.index_mut.ensures.value
+    c.in_ok-outcome.ensures.ok c.count.ensures.small c.count.ensures.is
 
 pub returns-clause-can : goal.returns-clause-can
 returns-clause-can g c =
     let m = c.self.inside in
-    let acts : ActsAs m.actors.items c.args.v c.args.a = acts_as m.actors.items c.args.v c.args.a (rw (← c.self.view_is) at c.requires.fit) in
-    let same = read_is m.actors.items c.args.v acts.actor c.index.result.now acts.here c.index.ensures in
-    let F : Actor → Type 0 = λ x. IsTrue (is_fit_for x c.args.a) in
-    let P : Outcome → Type 0 = λ o. IsTrue (can_have c.args.a o) in
-    subst P (ap (λ e. e.outcome) c.in_ok-outcome.ensures.ok) (act_can_have (g.D.DomainActs.state m.domains) c.index.result.now c.args.a (subst F (sym same) acts.fit))
+    can_be m.actors.items c.args.v c.index.result.now c.args.a (g.D.DomainActs.state m.domains) (g.D.DomainActs.state c.act.new.domains) c.in_ok-outcome.outcome (rw (← c.self.view_is) at c.requires.fit) c.index.ensures c.in_ok-outcome.ensures.ok
 
 pub returns-clause-acts : goal.returns-clause-acts
 returns-clause-acts g c =
     let m = c.self.inside in
-    let acts : ActsAs m.actors.items c.args.v c.args.a = acts_as m.actors.items c.args.v c.args.a (rw (← c.self.view_is) at c.requires.fit) in
-    let same = read_is m.actors.items c.args.v acts.actor c.index.result.now acts.here c.index.ensures in
-    let here : slice_get m.actors.items c.args.v ≡ Some c.index.result.now = acts.here ∙ ap (λ x. Some x) (sym same) in
-    let e = c.in_ok-outcome.ensures.ok in
-    let P : Option Actor → Type 0 = λ x. ActsAt x c.args.a (Some (g.D.DomainActs.state m.domains)) c.in_ok-outcome.outcome (Some (g.D.DomainActs.state c.act.new.domains)) in
-    rw (← c.self.view_is) (subst P (sym here) (sym (ap (λ x. x.outcome) e), ap (λ x. Some x) (sym (ap (λ x. x.state) e))))
+    rw (← c.self.view_is) (acts_in m.actors.items c.args.v c.index.result.now c.args.a (g.D.DomainActs.state m.domains) (g.D.DomainActs.state c.act.new.domains) c.in_ok-outcome.outcome (rw (← c.self.view_is) at c.requires.fit) c.index.ensures c.in_ok-outcome.ensures.ok)
 
 pub returns-clause-counts : goal.returns-clause-counts
 returns-clause-counts g c =
     let m = c.self.inside in
-    let t = c.index_mut.result.now in
-    let done : HasDone m.totals.items c.args.v = has_done m.totals.items c.args.v (rw (← c.self.view_is) at c.requires.few) in
-    let here = at_read m.totals.items c.args.v t (inside_of m.totals.items c.args.v done.done done.here) c.index_mut.ensures.value in
-    rw (← c.self.view_is)
-    (ap (set m.totals.items c.args.v) c.count.ensures.is ∙ sym (counted m.totals.items c.args.v t c.in_ok-outcome.outcome here))
+    rw (← c.self.view_is) (is_counted m.totals.items c.args.v c.index_mut.result.now (rw (← c.self.view_is) at c.requires.few) c.index_mut.ensures.value c.count.new.totals c.in_ok-outcome.outcome c.count.ensures.is)
