@@ -1,5 +1,5 @@
 -- Laws of what a fetch finds.
-use Rattle.std.proofs.Common.{◌≡◌, ℕ, ◌+◌, ◌*◌, ◌<◌, ◌≤◌, true, false, if◌then◌else◌, List, length, take, drop, Option, Some, None, IfNone, refl, sym, ap, ◌∙◌}
+use Rattle.std.proofs.Common.{◌≡◌, ℕ, ◌+◌, ◌*◌, ◌<◌, ◌≤◌, true, false, if◌then◌else◌, List, length, take, drop, Option, Some, None, IfNone, sym, ap, ◌∙◌}
 use Rattle.argo_base.specs.declared.ring_key.RingKey.{RingKey}
 use Rattle.argo_model.specs.Rules.State.{Live, has_page}
 use Rattle.argo_model.specs.Rules.Act as acts

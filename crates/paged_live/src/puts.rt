@@ -15,7 +15,12 @@ use ring_core::Ring;
 
 impl Live {
     /// Puts bytes at an offset of a page. A page that stands in no ring takes its memory at its first put.
-    pub(crate) fn put_bytes(&mut self, page: u64, off: u32, bytes: &[u8]) -> Result<Outcome, NoMemory>
+    pub(crate) fn put_bytes(
+        &mut self,
+        page: u64,
+        off: u32,
+        bytes: &[u8],
+    ) -> Result<Outcome, NoMemory>
         requires { off + length bytes.now ≤ 4096 }
         ensures outcome { IfOk result
             (λ o. o ≡ (acts.put self.old page off bytes.now).outcome) }
