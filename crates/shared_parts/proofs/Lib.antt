@@ -1,2 +1,4 @@
+pub mod HomeLaws
+pub mod SeatLaws
 pub mod Standings
 pub mod Starts
