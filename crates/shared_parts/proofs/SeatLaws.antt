@@ -6,6 +6,7 @@ use Rattle.std.specs.Ordering.{match_ordering, is_eq}
 use Rattle.std.specs.Option.{option_copied, option_copied_mut, option_map, option_or, unwrap_or}
 use Rattle.std.specs.Map.{lookup, set_value, remove_entry}
 use Rattle.std.specs.BTreeMap.{is_at, insert_entry}
+use Rattle.std.proofs.lemmas.Bool.{false≢true}
 use Rattle.std.proofs.lemmas.Map.Made.{lookup-map_values}
 use Rattle.argo_base.specs.declared.ring_key.RingKey.{RingKey}
 use Rattle.argo_base.specs.Match.{key_cmp, key_of, at_key, match_of, wildcard}
@@ -17,8 +18,8 @@ use Rattle.ring_table.proofs.BucketLaws.{key_total, key_itself}
 use Rattle.ring_table.proofs.EntryLaws.{find-insert}
 use Rattle.ring_table.specs.Serials as tables
 use Rattle.shared_parts.specs.declared.homes.Home.{Home}
-use Rattle.shared_parts.specs.Homes.{home_at}
-use Rattle.shared_parts.specs.Rings.{Registry, AreTaken, NoneAbove, IsNext, serial_at, has_ring, place_in, place_of}
+use Rattle.shared_parts.specs.Homes.{home_at, settled}
+use Rattle.shared_parts.specs.Rings.{Registry, AreTaken, NoneAbove, IsNext, serial_at, has_ring, place_in, place_of, without_ring, with_ring, next_serial}
 
 -- ---- whether there is one
 
@@ -49,6 +50,16 @@ place_lost r page h is none = none_there (serial_at r h.key) h.place none ∙ ap
 pub place_found : (r : Registry) (page : ℕ) (h : Home) → Some h ≡ home_at r.homes page → true ≡ has_ring r h.key → Some h.place ≡ place_of r page
 place_found r page h is there = one_there (serial_at r h.key) h.place there ∙ ap (place_in r) is
 
+some_key : {Y : Type 0} (key : RingKey) (o : Option Y) → is_some {T = RingKey × Y} (option_map (λ r. (key, r)) o) ≡ is_some o
+some_key key None = refl
+some_key key (Some y) = refl
+
+some_or : {A B : Type 0} (a b : Option A) (x y : Option B) → is_some a ≡ is_some x → is_some b ≡ is_some y → is_some (option_or a b) ≡ is_some (option_or x y)
+some_or None b None y one two = two
+some_or None b (Some v) y one two = cc
+some_or (Some a) b None y one two = cc
+some_or (Some a) b (Some v) y one two = refl
+
 -- ---- the serials
 
 module _ {T : Type 0} where
@@ -69,16 +80,10 @@ module _ {T : Type 0} where
   listed e = (e.0, e.1.serial)
 
   at_both : (es : List (RingKey × Held T)) (key : RingKey) → is_some (at_key (serials_of es) key) ≡ is_some (at_key es key)
-  at_both es key = by (lookup (is_at (key_cmp key)) (serials_of es)) (lookup (is_at (key_cmp key)) es) (found_serial (is_at (key_cmp key)) es) where
-    by : (a : Option ℕ) (b : Option (Held T)) → a ≡ option_map serial b → is_some (option_map (λ r. (key, r)) a) ≡ is_some (option_map (λ r. (key, r)) b)
-    by a None is = ap (λ o. is_some (option_map (λ (r : ℕ). (key, r)) o)) is
-    by a (Some h) is = ap (λ o. is_some (option_map (λ (r : ℕ). (key, r)) o)) is
-
-  some_or : {A B : Type 0} (a b : Option A) (x y : Option B) → is_some a ≡ is_some x → is_some b ≡ is_some y → is_some (option_or a b) ≡ is_some (option_or x y)
-  some_or None b None y one two = two
-  some_or None b (Some v) y one two = cc
-  some_or (Some a) b None y one two = cc
-  some_or (Some a) b (Some v) y one two = refl
+  at_both es key =
+      some_key key (lookup (is_at (key_cmp key)) (serials_of es))
+      ∙ found_both (is_at (key_cmp key)) es
+      ∙ sym (some_key key (lookup (is_at (key_cmp key)) es))
 
   -- a sender meets a ring by the serials where it does by the rows
   pub match_both : (es : List (RingKey × Held T)) (port sender : ℕ) → is_some (match_of (serials_of es) port sender) ≡ is_some (match_of es port sender)
@@ -128,8 +133,20 @@ module _ {T : Type 0} where
 
   -- ---- what is found by a serial
 
-  abbrev shown : List (RingKey × Held T) → ℕ → List (Option Home) → Registry
+  abbrev pub shown : List (RingKey × Held T) → ℕ → List (Option Home) → Registry
   shown es next homes = record { serials = serials_of es; next = next; homes = homes }
+
+  pub shown_value : (es : List (RingKey × Held T)) (key : RingKey) (v : T) (next : ℕ) (homes : List (Option Home)) → shown (with_value es key v) next homes ≡ shown es next homes
+  shown_value es key v next homes = ap (λ (ss : List (RingKey × ℕ)). record { serials = ss; next = next; homes = homes }) (serial-with_value es key v)
+
+  pub shown_without : (es : List (RingKey × Held T)) (key : RingKey) (next : ℕ) (homes : List (Option Home)) → shown (without_row es key) next homes ≡ without_ring (shown es next homes) key []
+  shown_without es key next homes = ap (λ (ss : List (RingKey × ℕ)). record { serials = ss; next = next; homes = homes }) (serial-without_row es key)
+
+  pub absent_held : (es : List (RingKey × Held T)) (key : RingKey) → is_some (lookup (is_at (key_cmp key)) (serials_of es)) ≡ false → held_at es key ≡ None
+  absent_held es key none = by (held_at es key) refl (sym (found_both (is_at (key_cmp key)) es) ∙ none) where
+    by : (o : Option (Held T)) → held_at es key ≡ o → is_some (held_at es key) ≡ false → held_at es key ≡ None
+    by None is gone = is
+    by (Some h) is gone = absurd (false≢true (sym gone ∙ ap is_some is))
 
   -- a row that has the serial
   had : (o : Option (Held T)) (s : ℕ) → option_map (λ h. h.serial) o ≡ Some s → (h : Held T) × (o ≡ Some h) × (h.serial ≡ s)
@@ -150,8 +167,8 @@ module _ {T : Type 0} where
     stands = found_serial (is_at (key_cmp row.key)) es ∙ ap (option_map (λ h. h.serial)) is.stands;
     above = is.above;
     least = λ q s found more.
-      let h = held_with es q s found in
-      subst (λ (n : ℕ). row.serial ≤ n) h.2 (is.least q h.0 h.1 (subst (λ (n : ℕ). serial < n) (sym h.2) more));
+        let h = held_with es q s found in
+        subst (λ (n : ℕ). row.serial ≤ n) h.2 (is.least q h.0 h.1 (subst (λ (n : ℕ). serial < n) (sym h.2) more));
   }
 
 -- ---- the rings
@@ -208,10 +225,6 @@ module _ {X : Type 0} where
   some_row None r is = ap is_some is
   some_row (Some e) r is = ap is_some is
 
-  some_key : (key : RingKey) (o : Option (Held (Option X))) → is_some (option_map (λ h. (key, h)) o) ≡ is_some o
-  some_key key None = refl
-  some_key key (Some h) = refl
-
   row_taken : (o : Option (RingKey × Held (Option X))) (row : Row (Option X)) → ((e : RingKey × Held (Option X)) → o ≡ Some e → is_some e.1.value ≡ true) → Some row ≡ option_map row_of o → is_some row.value ≡ true
   row_taken None row all is = cc
   row_taken (Some e) row all is =
@@ -261,3 +274,41 @@ module _ {X : Type 0} where
     by (Some h) found is =
         let same : v ≡ h.value = cc in
         ap is_some same ∙ taken_at (is_at (key_cmp key)) es h taken found
+
+  pub taken-value : (es : List (RingKey × Held (Option X))) (key : RingKey) (x : X) → AreTaken es → AreTaken (with_value es key (Some x))
+  taken-value es key x taken = taken-set (is_at (key_cmp key)) es (held (unwrap_or (option_map (λ h. h.serial) (held_at es key)) 0) (Some x)) refl taken
+
+  pub taken-without : (es : List (RingKey × Held (Option X))) (key : RingKey) → AreTaken es → AreTaken (without_row es key)
+  taken-without es key taken = taken-remove (is_at (key_cmp key)) es taken
+
+  pub no_empty : (es : List (RingKey × Held (Option X))) (key : RingKey) (v : Option X) → AreTaken es → Some v ≡ value_at es key → v ≡ None → ⊥
+  no_empty es key v taken is none = false≢true (sym (ap is_some none) ∙ value_taken es key v taken is)
+
+  pub row_lost : (es t : List (RingKey × Held (Option X))) (key : RingKey) (s : ℕ) → t ≡ with_row es key s None → None ≡ value_at t key → ⊥
+  row_lost es t key s is none =
+      false≢true
+      (ap is_some none ∙ ap (λ (x : List (RingKey × Held (Option X))). is_some (value_at x key)) is
+      ∙ ap (λ (o : Option (Held (Option X))). is_some (option_map (λ h. h.value) o)) (row_there es key s None))
+
+  pub shown_made : (es t : List (RingKey × Held (Option X))) (key k : RingKey) (s next : ℕ) (v : Option X) (homes after : List (Option Home)) (numbers : List ℕ)
+      → t ≡ with_row es key s None → next ≡ next_serial s → after ≡ settled key 0 numbers homes → key ≡ k
+      → shown (with_value t key v) next after ≡ with_ring (shown es s homes) k numbers
+  shown_made es t key k s next v homes after numbers is more noted same =
+      shown_value t key v next after
+      ∙ ap (λ (x : List (RingKey × Held (Option X))). shown x next after) is
+      ∙ ap (λ (ss : List (RingKey × ℕ)). record { serials = ss; next = next; homes = after }) (serial-with_row es key s None)
+      ∙ ap (λ (n : ℕ). record { serials = insert_entry key_cmp (serials_of es) key s; next = n; homes = after }) more
+      ∙ ap (λ (hs : List (Option Home)). record { serials = insert_entry key_cmp (serials_of es) key s; next = next_serial s; homes = hs }) noted
+      ∙ ap (λ (q : RingKey). with_ring (shown es s homes) q numbers) same
+
+-- what is not there does not go
+pub remove_absent : (key : RingKey) (es : List (RingKey × ℕ)) → is_some (lookup (is_at (key_cmp key)) es) ≡ false → remove_entry (is_at (key_cmp key)) es ≡ es
+remove_absent key [] none = refl
+remove_absent key (e ∷ es) none = by (is_at (key_cmp key) e.0) none (remove_absent key es) where
+  by : (b : Bool) → is_some (cond b (Some e.1) (lookup (is_at (key_cmp key)) es)) ≡ false → (is_some (lookup (is_at (key_cmp key)) es) ≡ false → remove_entry (is_at (key_cmp key)) es ≡ es)
+      → cond b es (e ∷ remove_entry (is_at (key_cmp key)) es) ≡ e ∷ es
+  by true none rest = cc
+  by false none rest = ap (λ r. e ∷ r) (rest none)
+
+pub without_absent : (r : Registry) (key : RingKey) → has_ring r key ≡ false → without_ring r key [] ≡ r
+without_absent r key none = ap (λ (ss : List (RingKey × ℕ)). record { serials = ss; next = r.next; homes = r.homes }) (remove_absent key r.serials none)

@@ -32,20 +32,10 @@ pub(crate) fn home_at(homes: &[Option<Home>], page: u64) -> Option<Home>
     homes.get(page as usize).copied().unwrap_or(None)
 }
 
-/// Notes that the pages of these numbers stand in the ring of the key.
-pub(crate) fn settle(homes: &mut [Option<Home>], key: &RingKey, numbers: &[u64])
-    ensures { homes.new ≡ places.settled key.now 0 numbers.now homes.old }
-{
-    let mut place = 0;
-    for number in numbers {
-        note(homes, *number, Some(Home { key: *key, place }));
-        place += 1;
-    }
-}
-
 /// Notes that the pages of a row stand in the ring of the key.
-pub(crate) fn settle_row(homes: &mut [Option<Home>], key: &RingKey, row: &PageRow)
-    ensures { homes.new ≡ places.settled key.now 0 (numbers_of row.now) homes.old }
+pub(crate) fn settle_row(homes: &mut Vec<Option<Home>>, key: &RingKey, row: &PageRow)
+    ensures { homes.new.items
+        ≡ places.settled key.now 0 (numbers_of row.now) homes.old.items }
 {
     for place in 0..row.count() {
         note(homes, row.number(place), Some(Home { key: *key, place }));
@@ -53,8 +43,8 @@ pub(crate) fn settle_row(homes: &mut [Option<Home>], key: &RingKey, row: &PageRo
 }
 
 /// Notes that the pages of a row stand in no ring.
-pub(crate) fn clear(homes: &mut [Option<Home>], row: &PageRow)
-    ensures { homes.new ≡ places.cleared (numbers_of row.now) homes.old }
+pub(crate) fn clear(homes: &mut Vec<Option<Home>>, row: &PageRow)
+    ensures { homes.new.items ≡ places.cleared (numbers_of row.now) homes.old.items }
 {
     for place in 0..row.count() {
         note(homes, row.number(place), None);
@@ -62,8 +52,8 @@ pub(crate) fn clear(homes: &mut [Option<Home>], row: &PageRow)
 }
 
 // Notes where a page stands, if it is one of the domain's.
-fn note(homes: &mut [Option<Home>], page: u64, home: Option<Home>)
-    ensures { homes.new ≡ places.with_home page home homes.old }
+fn note(homes: &mut Vec<Option<Home>>, page: u64, home: Option<Home>)
+    ensures { homes.new.items ≡ places.with_home page home homes.old.items }
 {
     if page < homes.len() as u64 {
         homes[page as usize] = home;

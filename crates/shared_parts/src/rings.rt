@@ -5,7 +5,7 @@ ghost use Rattle.argo_base.specs.Slots.{is_legal, page_count};
 ghost use Rattle.guest_pages.specs.Rows.{numbers_of};
 ghost use Rattle.shared_parts.specs.Rings as shown;
 
-use crate::homes::{Home, clear, home_at, no_homes, settle, settle_row};
+use crate::homes::{Home, clear, home_at, no_homes, settle_row};
 use argo_base::{DomId, Ended, NoMemory, RingId, RingKey};
 use guest_pages::{LendFault, PageRow, Private};
 use lock_tokens::Gate;
@@ -107,7 +107,10 @@ impl Rings {
         ensures found { is_some result ≡ shown.has_ring self.old key }
         ensures left { self.new ≡ shown.without_ring self.old key [] }
     {
-        let Some(Some(gate)) = self.table.remove(key) else {
+        let Some(seat) = self.table.remove(key) else {
+            return None;
+        };
+        let Some(gate) = seat else {
             return None;
         };
         Some(gate.into_inner())
@@ -126,7 +129,10 @@ impl Rings {
         ensures found { is_some result ≡ shown.has_ring self.old key }
         ensures same { self.new ≡ self.old }
     {
-        let Some(Some(gate)) = self.table.find_exact_mut(key) else {
+        let Some(seat) = self.table.find_exact_mut(key) else {
+            return None;
+        };
+        let Some(gate) = seat else {
             return None;
         };
         Some(is_same(gate.get_mut(), len, numbers))
@@ -154,7 +160,7 @@ impl Rings {
         let Some(seat) = self.table.find_exact_mut(key) else {
             return Err(row);
         };
-        settle_row(self.homes.as_mut_slice(), &key, &row);
+        settle_row(&mut self.homes, &key, &row);
         *seat = Some(Gate::new(Ring::new(self.alloc, id, len, row)));
         self.next_serial = self.next_serial.saturating_add(1);
         Ok(())
@@ -175,20 +181,21 @@ impl Rings {
             private.new key len numbers.now ended) }
         ensures stood { OnOk result (IsTrue (shown.has_ring self.old key)) }
         ensures err { OnErr result (private.new ≡ private.old) }
-        ensures kept { OnErr result (shown.IsKept self.old self.new key) }
+        ensures kept { OnErr result (IsTrue (shown.has_ring self.old key)
+            → shown.IsKept self.old self.new key) }
         ensures none { shown.has_ring self.old key ≡ false
             → (result ≡ Err LendFault.Pages) × (self.new ≡ self.old) }
     {
-        let Some(Some(gate)) = self.table.find_exact_mut(key) else {
+        let Some(seat) = self.table.find_exact_mut(key) else {
+            return Err(LendFault::Pages);
+        };
+        let Some(gate) = seat else {
             return Err(LendFault::Pages);
         };
         let ring = gate.get_mut();
-        clear(self.homes.as_mut_slice(), ring.row());
+        clear(&mut self.homes, ring.row());
         let ended = ring.restart(len, private, numbers);
-        match &ended {
-            Ok(_) => settle(self.homes.as_mut_slice(), &key, numbers),
-            Err(_) => settle_row(self.homes.as_mut_slice(), &key, ring.row()),
-        }
+        settle_row(&mut self.homes, &key, ring.row());
         ended
     }
 
@@ -204,7 +211,7 @@ impl Rings {
             return Notices::new();
         };
         let (row, notices) = ring.into_parts();
-        clear(self.homes.as_mut_slice(), &row);
+        clear(&mut self.homes, &row);
         private.give_back(row);
         notices
     }
@@ -213,7 +220,10 @@ impl Rings {
     pub(crate) fn forget(&mut self, key: RingKey, dom: DomId)
         ensures { self.new ≡ self.old }
     {
-        let Some(Some(gate)) = self.table.find_exact_mut(key) else {
+        let Some(seat) = self.table.find_exact_mut(key) else {
+            return;
+        };
+        let Some(gate) = seat else {
             return;
         };
         gate.get_mut().forget(dom);

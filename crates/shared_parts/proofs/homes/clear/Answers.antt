@@ -13,5 +13,5 @@ loop-place-preserved c =
     let inside : k < length row = omega (arith, c.loop-place-test.true, count) in
     let below : k < length (numbers_of row) = omega (arith, inside, length-map row (λ (p : ℕ × List ℕ). p.0)) in
     c.loop-place.invariant
-    ∙ clear_next (numbers_of row) c.loop-place.homes k c.number.result below (c.number.ensures ∙ number_of row k inside)
+    ∙ clear_next (numbers_of row) c.loop-place.homes.items k c.number.result below (c.number.ensures ∙ number_of row k inside)
     ∙ ap (cleared (drop (k + 1) (numbers_of row))) (sym c.note.ensures)

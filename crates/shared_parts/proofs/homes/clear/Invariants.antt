@@ -4,4 +4,4 @@ use Rattle.shared_parts.specs.Homes.{cleared}
 use Rattle.shared_parts.proofs.homes.clear.Given as goal
 
 abbrev pub invariant-loop-place : goal.invariant-loop-place
-invariant-loop-place l = cleared (numbers_of l.row) l.initial.homes ≡ cleared (drop l.place (numbers_of l.row)) l.homes
+invariant-loop-place l = cleared (numbers_of l.row) l.initial.homes.items ≡ cleared (drop l.place (numbers_of l.row)) l.homes.items

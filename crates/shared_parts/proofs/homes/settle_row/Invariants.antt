@@ -5,4 +5,4 @@ use Rattle.shared_parts.proofs.homes.settle_row.Given as goal
 
 abbrev pub invariant-loop-place : goal.invariant-loop-place
 invariant-loop-place l =
-    settled l.key 0 (numbers_of l.row) l.initial.homes ≡ settled l.key l.place (drop l.place (numbers_of l.row)) l.homes
+    settled l.key 0 (numbers_of l.row) l.initial.homes.items ≡ settled l.key l.place (drop l.place (numbers_of l.row)) l.homes.items
