@@ -1,6 +1,8 @@
 //! The index lists of domains: which rings are for them alone, and which wildcard rings hold a notice of them. One lock at a time.
-ghost use Rattle.std.specs.Prelude.{◌≡◌};
+ghost use Rattle.std.specs.Prelude.{◌≡◌, IfOk};
+ghost use Rattle.argo_model.specs.Programs.Program.{caller_of};
 ghost use Rattle.lock_tokens.specs.Ranks.{IsAboveAll};
+ghost use Rattle.shared_caller.specs.Waiting.{is_listed};
 
 use crate::caller::Caller;
 use crate::waiting::{is_noted, will_wait};
@@ -74,7 +76,9 @@ impl<'a, A: Plan, B: Ledger, C: Ledger, P: Pause> Caller<'a, A, B, C, P> {
         size: u32,
     ) -> Result<bool, NoMemory>
         requires { IsAboveAll 5 pass.old.held }
-        ensures { pass.new ≡ pass.old }
+        ensures pass { pass.new ≡ pass.old }
+        ensures listed { IfOk result
+            (λ listed. listed ≡ is_listed ring.now (caller_of self.now) size) }
     {
         let id = ring.id();
         if !id.partner.is_any() {

@@ -1,2 +1,5 @@
+pub mod HomeLaws
+pub mod RestartLaws
+pub mod SeatLaws
 pub mod Standings
 pub mod Starts

@@ -1,9 +1,11 @@
 -- What contracts see of the domains of a shared world, and what always holds of them: what a script fixes of a domain stands
 -- there, and what may change of it has changed only where a line of the script can do that.
-use Rattle.std.specs.Prelude.{◌≡◌, ℕ, ◌+◌, ◌<◌, Bool, true, false, nat_lt, if◌then◌else◌, List, [], Option, Some, None, IsTrue, fold}
+use Rattle.std.specs.Prelude.{◌≡◌, ℕ, ◌+◌, ◌<◌, Bool, true, false, nat_lt, if◌then◌else◌, List, [], Option, Some, None, Result, Ok, Err, IsTrue, fold, ◌&&◌, ◌==◌}
 use Rattle.std.specs.Ordering.{nat_cmp}
 use Rattle.std.specs.Map.{lookup, set_value}
 use Rattle.std.specs.BTreeMap.{is_at, insert_entry}
+use Rattle.argo_base.specs.declared.errno.Errno.{Errno}
+use Rattle.argo_base.specs.declared.errno.Errno.TheVariants.{Srch, Exist}
 use Rattle.argo_model.specs.declared.scripts.DomainLine.{DomainLine}
 use Rattle.argo_model.specs.Rules.Possible.{Facts, is_destroyed, is_on_line, gives_page}
 use Rattle.argo_model.specs.Runs.Script.{has_domain}
@@ -33,6 +35,30 @@ MayBeFound f d (Some x) = MayStand f d x
 abbrev pub AreOf : Facts → List (ℕ × Standing) → Type 0
 AreOf f xs = (d : ℕ) → MayBeFound f d (lookup (is_at (nat_cmp d)) xs)
 
+-- how a domain stands, where it is one of these
+abbrev pub standing_at : List (ℕ × Standing) → ℕ → Option Standing
+standing_at xs d = lookup (is_at (nat_cmp d)) xs
+
+-- whether it is alive
+abbrev pub is_alive : Option Standing → Bool
+is_alive None = false
+is_alive (Some x) = x.alive
+
+-- whether it is alive in this generation
+abbrev pub is_alive_in : ℕ → Option Standing → Bool
+is_alive_in g None = false
+is_alive_in g (Some x) = x.alive && (x.generation == g)
+
+-- why a domain cannot begin anew, where it cannot
+abbrev pub refusal_of : Option Standing → Option Errno
+refusal_of None = Some Srch
+refusal_of (Some x) = if x.alive then Some Exist else None
+
+-- the error, where there is one
+abbrev pub error_of : {X : Type 0} → Result X Errno → Option Errno
+error_of (Ok _) = None
+error_of (Err e) = Some e
+
 -- the domains of these lines, as they start
 abbrev pub fresh : DomainLine → Standing
 fresh l = record { on = l.on; pages = l.pages; generation = 1; alive = true }
@@ -59,6 +85,10 @@ change_found xs d change (Some x) = set_value (is_at (nat_cmp d)) xs (change x)
 
 abbrev pub change_domain : List (ℕ × Standing) → ℕ → (Standing → Standing) → List (ℕ × Standing)
 change_domain xs d change = change_found xs d change (lookup (is_at (nat_cmp d)) xs)
+
+-- a domain that is alive, as an action finds it
+abbrev pub living : Bool → ℕ → ℕ → Standing
+living is_on pages generation = record { on = is_on; pages = pages; generation = generation; alive = true }
 
 -- what an action finds of a domain that is alive: it is one of the script's, on as its line says, with no page more than that gives
 pub record IsParty (f : Facts) (d : ℕ) (is_on : Bool) (count : ℕ) : Type 0 where

@@ -1,2 +1,4 @@
 pub mod Closed
 pub mod Domains
+pub mod Homes
+pub mod Rings

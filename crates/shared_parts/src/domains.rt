@@ -1,11 +1,11 @@
 //! The domains of the world, as whoever has their lock finds them.
-ghost use Rattle.std.specs.Prelude.{◌≡◌, IsTrue, OnOk, IfOk, IfSome, IfNone};
+ghost use Rattle.std.specs.Prelude.{◌≡◌, false, Some, IsTrue, OnOk, IfOk, IfSome, IfNone};
 ghost use Rattle.std.specs.Ordering.{nat_cmp};
 ghost use Rattle.std.specs.BTreeMap.{insert_entry};
 ghost use Rattle.argo_model.specs.declared.scripts.Actor.TheVariants.{Vcpu};
 ghost use Rattle.argo_model.specs.Rules.Possible.{facts_of, is_destroyed, may_be_away, may_be_gone};
 ghost use Rattle.argo_model.specs.Runs.Script.{has_domain};
-ghost use Rattle.shared_parts.specs.Domains.{IsParty, fresh, fresh_all};
+ghost use Rattle.shared_parts.specs.Domains.{IsParty, fresh, fresh_all, is_alive, is_alive_in, living, standing_at};
 
 use crate::domain::Domain;
 use crate::party::Party;
@@ -39,6 +39,7 @@ impl<A: Plan> Domains<A> {
     #[tactic(auto, using(crate::proofs::Starts::start_fits))]
     pub fn new(alloc: Global, scripts: &Scripts) -> Result<Domains<A>, NoMemory>
         requires { A.facts ≡ facts_of scripts.now }
+        ensures { IfOk result (λ domains. domains ≡ fresh_all scripts.now.domains) }
     {
         Ok(Domains {
             domains: fresh_domains(alloc, scripts.domains.as_slice())?,
@@ -53,6 +54,9 @@ impl<A: Plan> Domains<A> {
         ensures first { IfSome result
             (λ p. (p.generation ≡ 1 → ⊥) → IsTrue (is_destroyed A.facts dom)) }
         ensures away { IfNone result (IsTrue (may_be_away A.facts dom)) }
+        ensures found { IfSome result
+            (λ p. standing_at self.now dom ≡ Some (living p.on p.pages p.generation)) }
+        ensures none { IfNone result (is_alive (standing_at self.now dom) ≡ false) }
     {
         let domain = self.domains.get(&dom)?;
         let Some(live) = &domain.life else {
@@ -73,6 +77,10 @@ impl<A: Plan> Domains<A> {
         ensures id { IfSome result (λ p. (p.id ≡ dom) × (p.generation ≡ generation)) }
         ensures party { IfSome result (λ p. IsParty A.facts dom p.on p.pages) }
         ensures gone { IfNone result (IsTrue (may_be_gone A.facts (Vcpu dom generation))) }
+        ensures found { IfSome result
+            (λ p. standing_at self.now dom ≡ Some (living p.on p.pages generation)) }
+        ensures none { IfNone result
+            (is_alive_in generation (standing_at self.now dom) ≡ false) }
     {
         let Some(party) = self.party(dom) else {
             return None;

@@ -9,6 +9,7 @@ mod closing;
 mod domain;
 mod domains;
 mod ends;
+mod homes;
 mod live;
 mod party;
 mod plan;

@@ -8,7 +8,6 @@ ghost use Rattle.argo_model.specs.Rules.Possible.{is_on_line, is_possible, may_b
 ghost use Rattle.shared_rings.specs.Registering.{MayFind};
 
 use argo_base::{DomId, Errno, PageList, RingId};
-use ring_core::Ring;
 use shared_caller::Caller;
 use shared_parts::{Plan, Rings};
 use shared_steps::Pause;
@@ -84,26 +83,11 @@ pub(crate) fn found(rings: &mut Rings, r: &Registration) -> Standing
     ensures { MayFind r.now.fail_exist result }
 {
     let is_full = rings.is_full();
-    match rings.ring_mut(r.id.key()) {
+    match rings.stands_so(r.id.key(), r.len, r.pages.as_slice()) {
         Some(_) if r.fail_exist => Standing::Refused(Errno::Exist),
-        Some(ring) if is_same(ring, r) => Standing::Same,
-        Some(_) => Standing::Other,
+        Some(true) => Standing::Same,
+        Some(false) => Standing::Other,
         None if is_full => Standing::Refused(Errno::NoSpc),
         None => Standing::None,
     }
-}
-
-// Whether a ring is clean, with just this length and these pages.
-fn is_same(ring: &Ring, r: &Registration) -> bool {
-    let row = ring.row();
-    let pages = r.pages.as_slice();
-    if !ring.clean() || ring.len() != r.len || row.count() != pages.len() {
-        return false;
-    }
-    for (place, page) in pages.iter().enumerate() {
-        if row.number(place) != *page {
-            return false;
-        }
-    }
-    true
 }
