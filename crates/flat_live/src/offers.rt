@@ -90,7 +90,7 @@ impl Ring {
         Ok(Outcome::Refused(Errno::Again))
     }
 
-    // Takes a message in: its bytes into the memory of the ring's owner, and into the untaken messages where the ring is clean.
+    // Takes the message of an offer in: into the memory of the ring's owner, and into the untaken ones where the ring is clean.
     fn accept(&mut self, memory: &mut Bytes, offer: &mut Offer) -> Result<(), NoMemory>
         requires there { IsTrue (are_there (length memory.old / 4096) self.old.pages) }
         requires room { IfBody offer.old (λ message. room_of message ≤ self.old.len) }

@@ -3,7 +3,7 @@ ghost use Rattle.std.specs.Prelude.{◌<◌, ◌^◌};
 
 use crate::Live;
 use argo_base::slots::{is_legal, page_count};
-use argo_base::{Bytes, DomId, LONGEST_BODY, PageList, RingKey};
+use argo_base::{Bytes, DomId, LONGEST_BODY, PageList, Piece, RingKey};
 use argo_model::{Load, Outcome};
 use live_domain::{KeyedRings, LiveDomain, Offer, Registration};
 use std::alloc::Global;
@@ -38,16 +38,13 @@ fn register(rt: &impl Abort, alloc: Global, live: &mut Live, page: u64) -> Resul
 fn send(rt: &impl Abort, alloc: Global, live: &mut Live, body: &[u8]) -> Result<Outcome, Fail> {
     let body = Bytes::copy_of(alloc, body)?;
     assert!(rt; body.len() <= LONGEST_BODY as usize);
-    let outcome = live.offer(
-        DomId(1),
-        5,
-        Offer {
-            sender: SENDER,
-            port: 7,
-            kind: 9,
-            load: Load::Body(body),
-        },
-    )?;
+    let mut sent = Offer {
+        sender: SENDER,
+        port: 7,
+        kind: 9,
+        load: Load::Body(body),
+    };
+    let outcome = live.offer(DomId(1), 5, &mut sent)?;
     Ok(outcome)
 }
 
@@ -75,9 +72,11 @@ fn a_ring_takes_a_message_and_its_bytes_stay(rt: HostRuntime) -> Result<(), Fail
     assert_eq!(rt; change.signals.as_slice(), [SENDER].as_slice());
     assert_eq!(rt; live.noted(KEY).len(), 0);
     assert!(rt; is_done(&live.unregister(KEY)));
-    match live.fetch(alloc, 1, 80, 4)? {
-        Outcome::Bytes(bytes) => assert_eq!(rt; bytes.as_slice(), [7; 4].as_slice()),
-        _ => assert!(rt; false),
-    }
+    let piece = Piece {
+        page: 1,
+        off: 80,
+        n: 4,
+    };
+    assert_eq!(rt; live.seen(piece), Some([7; 4].as_slice()));
     Ok(())
 }
