@@ -18,8 +18,8 @@ use Rattle.ring_table.proofs.BucketLaws.{key_total, key_itself}
 use Rattle.ring_table.proofs.EntryLaws.{find-insert}
 use Rattle.ring_table.specs.Serials as tables
 use Rattle.shared_parts.specs.declared.homes.Home.{Home}
-use Rattle.shared_parts.specs.Homes.{home_at, settled}
-use Rattle.shared_parts.specs.Rings.{Registry, AreTaken, NoneAbove, IsNext, serial_at, has_ring, place_in, place_of, without_ring, with_ring, next_serial}
+use Rattle.shared_parts.specs.Homes.{settled}
+use Rattle.shared_parts.specs.Rings.{Registry, AreTaken, NoneAbove, IsNext, serial_at, has_ring, without_ring, with_ring, next_serial}
 
 -- ---- whether there is one
 
@@ -30,25 +30,6 @@ copied_some (Some x) = refl
 pub copied_mut_some : {T : Type 0} (r : Option (MutBor T)) → is_some (option_copied_mut r) ≡ is_some r
 copied_mut_some None = refl
 copied_mut_some (Some x) = refl
-
--- where a page stands
-
-pub place_none : (r : Registry) (page : ℕ) → None ≡ home_at r.homes page → None ≡ place_of r page
-place_none r page is = ap (place_in r) is
-
-none_there : (o : Option ℕ) (place : ℕ) → false ≡ is_some o → None ≡ option_map (λ _. place) o
-none_there None place is = refl
-none_there (Some s) place is = cc
-
-one_there : (o : Option ℕ) (place : ℕ) → true ≡ is_some o → Some place ≡ option_map (λ _. place) o
-one_there None place is = cc
-one_there (Some s) place is = refl
-
-pub place_lost : (r : Registry) (page : ℕ) (h : Home) → Some h ≡ home_at r.homes page → false ≡ has_ring r h.key → None ≡ place_of r page
-place_lost r page h is none = none_there (serial_at r h.key) h.place none ∙ ap (place_in r) is
-
-pub place_found : (r : Registry) (page : ℕ) (h : Home) → Some h ≡ home_at r.homes page → true ≡ has_ring r h.key → Some h.place ≡ place_of r page
-place_found r page h is there = one_there (serial_at r h.key) h.place there ∙ ap (place_in r) is
 
 some_key : {Y : Type 0} (key : RingKey) (o : Option Y) → is_some {T = RingKey × Y} (option_map (λ r. (key, r)) o) ≡ is_some o
 some_key key None = refl

@@ -1,7 +1,7 @@
 use Rattle.std.proofs.Common.{option_map, ap, ◌∙◌}
 use Rattle.shared_parts.specs.Homes.{home_at}
 use Rattle.shared_parts.specs.Rings.{Registry}
-use Rattle.shared_parts.proofs.SeatLaws.{place_none, place_lost, place_found}
+use Rattle.shared_parts.proofs.HomeLaws.{place_none, place_lost, place_found}
 use Rattle.shared_parts.proofs.rings.Rings.home_of.Goals as goal
 
 pub returns-in_err-home : goal.returns-in_err-home
