@@ -4,11 +4,10 @@ use Rattle.std.specs.declared.alloc.Global.{Global}
 use Rattle.argo_base.specs.declared.piece.Piece.{Piece}
 use Rattle.vcpu_machine.specs.declared.cursor.Cursor.{Cursor}
 use Rattle.vcpu_machine.specs.declared.phase.Phase.{Phase}
-use Rattle.vcpu_machine.specs.declared.phase.Phase.TheVariants.{Reading, Writing, Asking, Receiving as Library}
+use Rattle.vcpu_machine.specs.declared.phase.Phase.TheVariants.{Reading, Writing, Asking}
 use Rattle.vcpu_machine.specs.declared.phase.Question.{Question}
 use Rattle.vcpu_machine.specs.declared.phase.Question.TheVariants.{Deliver}
 use Rattle.vcpu_machine.specs.declared.phase.Text.{Text}
-use Rattle.guest_lib.specs.Receiving.{Receiving}
 use Rattle.vcpu_machine.specs.declared.phase.Followed.{Followed}
 use Rattle.vcpu_machine.specs.declared.phase.Followed.TheVariants.{To, Over}
 use Rattle.vcpu_machine.specs.declared.phase.Reader.{Reader}
@@ -75,10 +74,6 @@ AskFollows q outcome o = (line : Line) (stays : Phase) → Follows line (Asking 
 -- one that delivers, whatever and wherever to
 abbrev pub Sends : Outcome → Followed → Type 0
 Sends outcome o = (to : Address) (load : Load) → AskFollows (Deliver to load) outcome o
-
--- one that the library works through
-abbrev pub ReceiveFollows : Receiving → Outcome → Option Followed → Receiving → Type 0
-ReceiveFollows r outcome o after = (line : Line) → Follows line (Library r) outcome o (Library after)
 
 -- and one that fetches
 abbrev pub Fetches : Cursor → Vec ℕ Global → Reader → Outcome → Option Followed → Cursor → Vec ℕ Global → Reader → Type 0

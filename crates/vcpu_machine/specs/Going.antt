@@ -18,7 +18,7 @@ use Rattle.vcpu_machine.specs.declared.phase.Followed.TheVariants.{To, Over}
 use Rattle.vcpu_machine.specs.declared.phase.Phase.{Phase}
 use Rattle.vcpu_machine.specs.declared.phase.Phase.TheVariants.{Receiving as Library}
 use Rattle.vcpu_machine.specs.declared.phase.Question.{Question}
-use Rattle.vcpu_machine.specs.Followed.{AskFollows, ReceiveFollows}
+use Rattle.vcpu_machine.specs.Followed.{AskFollows}
 use Rattle.vcpu_machine.specs.Phase.{rest_of, IsAtPhase, phase_left, Feeds, GoesOnAlike}
 use Rattle.vcpu_machine.specs.Question.{action_of}
 use Rattle.vcpu_machine.specs.Ranges.{PutsFirst}
@@ -51,10 +51,14 @@ abbrev pub Asks : List Actor → ℕ → Question → Option State → List Tota
 Asks actors v q before counted followed after counts =
     (o : Outcome) × Performs actors v (Do (action_of q)) before counted o after counts × AskFollows q o followed
 
--- and one of the library
-abbrev pub Receives : List Actor → ℕ → Receiving → Option State → List Totals → Option Followed → Receiving → Option State → List Totals → Type 0
-Receives actors v r before counted followed new after counts =
-    (o : Outcome) × Performs actors v (ahead say_found r []) before counted o after counts × ReceiveFollows r o followed new
+-- a line that the library works through, whichever it is
+abbrev pub ReceiveMoves : Receiving → Outcome → Option Reply → Receiving → Type 0
+ReceiveMoves r outcome reply after = (line : Line) → Moves line (Library r) outcome reply (Library after)
+
+-- and so was the library's action
+abbrev pub Receives : List Actor → ℕ → Receiving → Option State → List Totals → Option Reply → Receiving → Option State → List Totals → Type 0
+Receives actors v r before counted reply new after counts =
+    (o : Outcome) × Performs actors v (ahead say_found r []) before counted o after counts × ReceiveMoves r o reply new
 
 -- whichever line it is, the library goes on alike
 abbrev pub ReceivesAlike : Receiving → Receiving → Type 0

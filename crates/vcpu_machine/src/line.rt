@@ -1,6 +1,6 @@
 //! A line from its first action to its reply.
 
-ghost use Rattle.std.specs.Prelude.{◌≡◌, ◌<◌, ◌≤◌, List, [], ◌∷◌, IsTrue, IfOk, IsOk, OnOk, OnErr, IfNone};
+ghost use Rattle.std.specs.Prelude.{◌≡◌, ◌<◌, ◌≤◌, List, [], ◌∷◌, IsTrue, IfOk, IsOk, OnOk, OnErr};
 ghost use Rattle.argo_model.specs.Rules.Access.{has_steps_left};
 ghost use Rattle.argo_model.specs.Rules.Fit.{is_fit};
 ghost use Rattle.argo_model.specs.Programs.Program.{Do};
@@ -20,9 +20,8 @@ use std::alloc::Global;
 impl Phase {
     ghost use Rattle.vcpu_machine.specs.Steps.{most_steps};
     ghost use Rattle.argo_model.specs.Programs.Asks.{CanFollow};
-    ghost use Rattle.vcpu_machine.specs.Phase.{rest_of, takes_none, IsAtPhase, HasRoom, GoesOnAlike, phase_left, Feeds, StandsForAll, is_line_for};
-    ghost use Rattle.vcpu_machine.specs.Followed.{Follows};
-    ghost use Rattle.vcpu_machine.specs.Going.{MayGo, Goes, Settles};
+    ghost use Rattle.vcpu_machine.specs.Phase.{rest_of, takes_none, IsAtPhase, HasRoom, GoesOnAlike, phase_left, StandsForAll, is_line_for};
+    ghost use Rattle.vcpu_machine.specs.Going.{MayGo, Goes, Moves, Settles};
 
     /// The phase at which a line of an actor begins.
     pub(crate) fn start(alloc: Global, actor: Actor, line: &Line) -> Phase
@@ -116,13 +115,9 @@ impl Phase {
             }
             Phase::Looking { later } => {
                 let outcome = a.act(v, Action::Look)?;
-                let followed = looked(later, &outcome);
-                Ok(self.settle(followed))
+                Ok(looked(later, &outcome))
             }
-            Phase::Receiving(recv) => {
-                let followed = receive(recv, v, a)?;
-                Ok(self.settle(followed))
-            }
+            Phase::Receiving(recv) => receive(recv, v, a),
             Phase::Ended => unreachable!(),
         }
     }
@@ -146,33 +141,21 @@ impl Phase {
         requires at_phase { IsAtPhase line.now self.old }
         requires room { HasRoom self.old }
         requires can { CanFollow (rest_of line.now self.old []) outcome.now }
-        ensures fed { Feeds line.now self.old outcome.now result self.new }
-        ensures at_phase { IfNone result (IsAtPhase line.now self.new) }
-        ensures nearer { IfNone result (phase_left self.new < phase_left self.old) }
-    {
-        let Some(followed) = self.turned(alloc, line, outcome) else {
-            return None;
-        };
-        match followed {
-            Followed::To(phase) => {
-                *self = phase;
-                None
-            }
-            Followed::Over(reply) => Some(reply),
-        }
-    }
-
-    // Where the line goes with an outcome. Where it goes nowhere, the phase is moved on in place.
-    fn turned(&mut self, alloc: Global, line: &Line, outcome: &Outcome) -> Option<Followed>
-        requires at_phase { IsAtPhase line.now self.old }
-        requires room { HasRoom self.old }
-        requires can { CanFollow (rest_of line.now self.old []) outcome.now }
-        ensures { Follows line.now self.old outcome.now result self.new }
+        ensures { Moves line.now self.old outcome.now result self.new }
     {
         match self {
-            Phase::Reading { rest, got, reader } => fetched(alloc, rest, got, reader, outcome),
-            Phase::Writing { rest, text } => text.moved(alloc, line, rest, outcome),
-            Phase::Asking(question) => Some(question.asked(alloc, outcome)),
+            Phase::Reading { rest, got, reader } => {
+                let followed = fetched(alloc, rest, got, reader, outcome);
+                self.settle(followed)
+            }
+            Phase::Writing { rest, text } => {
+                let followed = text.moved(alloc, line, rest, outcome);
+                self.settle(followed)
+            }
+            Phase::Asking(question) => {
+                let followed = question.asked(alloc, outcome);
+                self.settle(Some(followed))
+            }
             Phase::Looking { later } => looked(later, outcome),
             Phase::Receiving(recv) => received(recv, outcome),
             Phase::Ended => unreachable!(),

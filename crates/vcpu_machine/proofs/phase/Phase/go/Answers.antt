@@ -1,4 +1,5 @@
 use Rattle.std.proofs.Common.{[], refl, ap}
+use Rattle.std.proofs.lemmas.Result.{IfOk-weaker, on_err_weaker}
 use Rattle.argo_model.specs.declared.action.Action.TheVariants.{Look}
 use Rattle.argo_model.specs.declared.action.Outcome.{Outcome}
 use Rattle.argo_model.specs.Programs.Asks.{collect}
@@ -8,15 +9,12 @@ use Rattle.vcpu_machine.specs.Followed.{Fetches}
 use Rattle.vcpu_machine.specs.Phase.{rest_of, GoesOnAlike}
 use Rattle.vcpu_machine.specs.Reader.{after_read, after_fault}
 use Rattle.vcpu_machine.proofs.GoingLaws.{moves_by, follows_alike}
-use Rattle.vcpu_machine.proofs.ReceivingLaws.{on_err}
 use Rattle.vcpu_machine.proofs.SeenLaws.{seen_performs}
 use Rattle.vcpu_machine.proofs.phase.Phase.go.Goals as goal
 
-pub returns-in_err-followed-in-Receiving-clause-err : goal.returns-in_err-followed-in-Receiving-clause-err
-returns-in_err-followed-in-Receiving-clause-err g c =
-    rw c.in-Receiving.is
-    (on_err c.from_residual-in_err-followed-in-Receiving.result (GoesOnAlike c.args.line.now (Receiving c.in-Receiving.recv) (Receiving c.receive.new.recv))
-    (c.in_err-followed-in-Receiving.ensures.err c.args.line.now))
+pub returns-in-Receiving-clause-err : goal.returns-in-Receiving-clause-err
+returns-in-Receiving-clause-err g c =
+    rw c.in-Receiving.is (on_err_weaker c.receive.result (λ alike. alike c.args.line.now) c.receive.ensures.err)
 
 pub returns-in_ok-reserve-in-Reading-clause-ok : goal.returns-in_ok-reserve-in-Reading-clause-ok
 returns-in_ok-reserve-in-Reading-clause-ok g c =
@@ -65,17 +63,9 @@ returns-in_ok-outcome-in-Looking-clause-ok g c =
     rw c.in-Looking.is (
       l.outcome,
       record { action = Look; does = refl; acts = l.ensures.acts; counts_are = l.ensures.counts },
-      moves_by c.args.line.now (Looking c.in-Looking.later) (Looking c.looked-followed.new.later) c.settle-in-Looking.new.self l.outcome c.looked-followed.result c.settle-in-Looking.result
-          (c.looked-followed.ensures c.args.line.now) c.settle-in-Looking.ensures,
-    )
+      c.looked.ensures c.args.line.now)
 
-pub returns-in_ok-followed-in-Receiving-clause-ok : goal.returns-in_ok-followed-in-Receiving-clause-ok
-returns-in_ok-followed-in-Receiving-clause-ok g c =
-    let r = c.in_ok-followed-in-Receiving in
-    let came = r.ensures.ok in
-    rw c.in-Receiving.is (
-      came.0,
-      came.1,
-      moves_by c.args.line.now (Receiving c.in-Receiving.recv) (Receiving c.receive.new.recv) c.settle-in-Receiving.new.self came.0 r.followed c.settle-in-Receiving.result
-          (came.2 c.args.line.now) c.settle-in-Receiving.ensures,
-    )
+pub returns-in-Receiving-clause-ok : goal.returns-in-Receiving-clause-ok
+returns-in-Receiving-clause-ok g c =
+    rw c.in-Receiving.is
+    (IfOk-weaker c.receive.result _ _ (λ reply came. (came.0, came.1, came.2 c.args.line.now)) c.receive.ensures.ok)
