@@ -75,8 +75,7 @@ pub record Puts (actors : List Actor) (v : ℕ) (rest : Cursor) (bytes : List �
 abbrev pub MayPut : List Actor → ℕ → Cursor → List ℕ → Type 0
 MayPut actors v rest bytes = (put : Action) → PutsFirst rest bytes put → IsTrue (is_fit put) → IsTrue (is_fit_at actors v put)
 
--- the phase at which a line is that went somewhere or stayed, and its reply
-abbrev pub Settles : Option Followed → Phase → Option Reply → Phase → Type 0
-Settles None old reply new = (reply ≡ None) × (new ≡ old)
-Settles (Some (To phase)) old reply new = (reply ≡ None) × (new ≡ phase)
-Settles (Some (Over said)) old reply new = reply ≡ Some said
+-- the phase at which a line is that went somewhere, or its reply
+abbrev pub Settles : Followed → Option Reply → Phase → Type 0
+Settles (To phase) reply new = (reply ≡ None) × (new ≡ phase)
+Settles (Over said) reply new = reply ≡ Some said

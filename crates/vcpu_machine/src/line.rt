@@ -7,9 +7,10 @@ ghost use Rattle.argo_model.specs.Programs.Program.{Do};
 
 use crate::call::{Call, caller_of};
 use crate::cursor::Cursor;
-use crate::fetch::{fetch_first, fetched, shown};
+use crate::fetch::{fetch_first, read_on};
 use crate::looking::looked;
 use crate::phase::{Followed, Phase, Question, Reader, Text};
+use crate::ranges::{Moved, fetch_moved, put_moved, seen_moved};
 use crate::reading::reading;
 use crate::receiving::{receive, received};
 use argo_base::NoMemory;
@@ -100,18 +101,26 @@ impl Phase {
             Phase::Reading { rest, got, reader } => {
                 got.reserve(reader.room(rest.left))?;
                 let (piece, _) = rest.split_first();
-                let followed = shown(alloc, rest, got, reader, a.seen(v, piece));
+                let moved = seen_moved(rest, got, a.seen(v, piece));
                 a.count(v);
+                if let Moved::More = moved {
+                    return Ok(None);
+                }
+                let followed = read_on(alloc, got, reader, moved);
                 Ok(self.settle(followed))
             }
             Phase::Writing { rest, text } => {
                 let outcome = text.put_in(line, *rest, v, a)?;
-                let followed = text.moved(alloc, line, rest, &outcome);
+                let moved = put_moved(rest, &outcome);
+                if let Moved::More = moved {
+                    return Ok(None);
+                }
+                let followed = text.put_on(alloc, moved);
                 Ok(self.settle(followed))
             }
             Phase::Asking(question) => {
                 let followed = question.go(alloc, v, a)?;
-                Ok(self.settle(Some(followed)))
+                Ok(self.settle(followed))
             }
             Phase::Looking { later } => {
                 let outcome = a.act(v, Action::Look)?;
@@ -122,17 +131,16 @@ impl Phase {
         }
     }
 
-    // Goes to a phase, or stays, or answers the reply.
-    fn settle(&mut self, followed: Option<Followed>) -> Option<Reply>
-        ensures { Settles followed self.old result self.new }
+    // Goes to the next phase, or answers the reply.
+    fn settle(&mut self, followed: Followed) -> Option<Reply>
+        ensures { Settles followed result self.new }
     {
         match followed {
-            None => None,
-            Some(Followed::To(phase)) => {
+            Followed::To(phase) => {
                 *self = phase;
                 None
             }
-            Some(Followed::Over(reply)) => Some(reply),
+            Followed::Over(reply) => Some(reply),
         }
     }
 
@@ -145,16 +153,24 @@ impl Phase {
     {
         match self {
             Phase::Reading { rest, got, reader } => {
-                let followed = fetched(alloc, rest, got, reader, outcome);
+                let moved = fetch_moved(rest, got, outcome);
+                if let Moved::More = moved {
+                    return None;
+                }
+                let followed = read_on(alloc, got, reader, moved);
                 self.settle(followed)
             }
             Phase::Writing { rest, text } => {
-                let followed = text.moved(alloc, line, rest, outcome);
+                let moved = put_moved(rest, outcome);
+                if let Moved::More = moved {
+                    return None;
+                }
+                let followed = text.put_on(alloc, moved);
                 self.settle(followed)
             }
             Phase::Asking(question) => {
                 let followed = question.asked(alloc, outcome);
-                self.settle(Some(followed))
+                self.settle(followed)
             }
             Phase::Looking { later } => looked(later, outcome),
             Phase::Receiving(recv) => received(recv, outcome),
