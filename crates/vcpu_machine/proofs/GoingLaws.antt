@@ -1,5 +1,5 @@
 -- Laws of steps over a world.
-use Rattle.std.proofs.Common.{◌≡◌, false, ℕ, Vec, Global, ◌+◌, ◌<◌, List, [], ◌∷◌, length, drop, Option, Some, None, slice_get, refl, ap, sym, ◌∙◌, subst}
+use Rattle.std.proofs.Common.{◌≡◌, false, ℕ, ◌+◌, ◌<◌, List, [], ◌∷◌, length, drop, Option, Some, None, slice_get, refl, sym, ◌∙◌, subst}
 use Rattle.argo_model.specs.declared.action.Outcome.{Outcome}
 use Rattle.argo_model.specs.declared.closing.Totals.{Totals}
 use Rattle.argo_model.specs.declared.line.Line.{Line}
@@ -10,12 +10,6 @@ use Rattle.argo_model.specs.Rules.State.{State}
 use Rattle.vcpu_machine.specs.declared.phase.Followed.{Followed}
 use Rattle.vcpu_machine.specs.declared.phase.Followed.TheVariants.{To, Over}
 use Rattle.vcpu_machine.specs.declared.phase.Phase.{Phase}
-use Rattle.vcpu_machine.specs.declared.phase.Phase.TheVariants.{Reading}
-use Rattle.vcpu_machine.specs.declared.phase.Reader.{Reader}
-use Rattle.vcpu_machine.specs.declared.cursor.Cursor.{Cursor}
-use Rattle.argo_model.specs.Programs.Asks.{collect}
-use Rattle.vcpu_machine.specs.Cursor.{pieces_left}
-use Rattle.vcpu_machine.specs.Reader.{after_read, after_fault}
 use Rattle.vcpu_machine.specs.Followed.{Follows}
 use Rattle.vcpu_machine.specs.Going.{Goes, Moves, Performs, Settles}
 use Rattle.vcpu_machine.specs.Phase.{rest_of, IsAtPhase, phase_left}
@@ -23,33 +17,17 @@ use Rattle.vcpu_machine.specs.Vcpu.{VcpuAt, lines_left, GoesOn, Fed, TakesTurn, 
 use Rattle.vcpu_machine.proofs.TurnLaws.{takes_turn}
 use Rattle.vcpu_machine.proofs.VcpuLaws.{rest_here, goes_on_fed, over_fed}
 
--- a line that goes somewhere, or stays, is moved there
-pub moves_by : (line : Line) (old stays new : Phase) (o : Outcome) (followed : Option Followed) (reply : Option Reply) → Follows line old o followed stays
-    → Settles followed stays reply new → Moves line old o reply new
-moves_by line old stays new o None reply h settled =
+-- a line that stays is moved on, and so is one that goes somewhere
+pub moves_stay : (line : Line) (old stays : Phase) (o : Outcome) → Follows line old o None stays → Moves line old o None stays
+moves_stay line old stays o h = record { feeds = h.rest; at_phase = h.ready; nearer = h.nearer }
+
+pub moves_by : (line : Line) (old stays new : Phase) (o : Outcome) (followed : Followed) (reply : Option Reply) → Follows line old o (Some followed) stays
+    → Settles followed reply new → Moves line old o reply new
+moves_by line old stays new o (To phase) reply h settled =
     subst (λ r. Moves line old o r new) (sym settled.0)
     (subst (λ p. Moves line old o None p) (sym settled.1) (record { feeds = h.rest; at_phase = h.ready; nearer = h.nearer }))
-moves_by line old stays new o (Some (To phase)) reply h settled =
-    subst (λ r. Moves line old o r new) (sym settled.0)
-    (subst (λ p. Moves line old o None p) (sym settled.1) (record { feeds = h.rest; at_phase = h.ready; nearer = h.nearer }))
-moves_by line old stays new o (Some (Over said)) reply h settled =
+moves_by line old stays new o (Over said) reply h settled =
     subst (λ r. Moves line old o r new) (sym settled) (record { feeds = h.rest; at_phase = tt; nearer = tt })
-
--- and so the line goes on, once its action was performed
-pub goes_by : (actors : List Actor) (k : ℕ) (line : Line) (old stays new : Phase) (before after : Option State) (counted counts : List Totals) (o : Outcome)
-    (followed : Option Followed) (reply : Option Reply) → Performs actors k (rest_of line old []) before counted o after counts → Follows line old o followed stays
-    → Settles followed stays reply new → Goes actors k line old before counted reply new after counts
-goes_by actors k line old stays new before after counted counts o followed reply performs h settled =
-    (o, performs, moves_by line old stays new o followed reply h settled)
-
--- more room for the bytes that were fetched changes nothing
-pub follows_alike : (line : Line) (c : Cursor) (got more : Vec ℕ Global) (reader : Reader) (o : Outcome) (followed : Option Followed) (stays : Phase) → more.items ≡ got.items
-    → Follows line (Reading c more reader) o followed stays → Follows line (Reading c got reader) o followed stays
-follows_alike line c got more reader o followed stays same h = record {
-  rest = λ os. ap (λ bs. collect (pieces_left c) bs (after_fault reader) (after_read reader) (o ∷ os)) (sym same) ∙ h.rest os;
-  ready = h.ready;
-  nearer = h.nearer;
-}
 
 goes_on_same : (v : VcpuAt) → GoesOn v v
 goes_on_same v = record { part = refl; done = refl; left = refl; rest = λ os. refl; stands = λ p st. st }

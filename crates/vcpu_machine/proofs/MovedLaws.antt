@@ -1,5 +1,5 @@
 -- Laws of phases that an outcome moves on.
-use Rattle.std.proofs.Common.{ℕ, Vec, Global, Option, Some, None, List, length, subst, sym, ◌∙◌, arith}
+use Rattle.std.proofs.Common.{◌≡◌, ◌≢◌, ℕ, Vec, Global, Some, None, List, length, refl, subst, sym, ◌∙◌, arith}
 use Rattle.vcpu_machine.specs.declared.cursor.Cursor.{Cursor}
 use Rattle.argo_model.specs.declared.line.Line.{Line}
 use Rattle.argo_model.specs.declared.action.Outcome.{Outcome}
@@ -10,11 +10,11 @@ use Rattle.vcpu_machine.specs.declared.phase.Phase.TheVariants.{Reading, Writing
 use Rattle.vcpu_machine.specs.declared.phase.Followed.{Followed}
 use Rattle.vcpu_machine.specs.declared.phase.Text.{Text}
 use Rattle.vcpu_machine.specs.declared.phase.Reader.{Reader}
-use Rattle.vcpu_machine.specs.Ranges.{PutMoves, FetchMoves, IsNearer, IsCounted, CountsBytes}
+use Rattle.vcpu_machine.specs.Ranges.{PutMoves, FetchMoves, IsNearer, IsCounted, CountsBytes, IsOver}
 use Rattle.vcpu_machine.specs.Text.{text_of, after_put, if_not_put, most_after_put}
 use Rattle.vcpu_machine.specs.Reader.{after_read, after_fault, HasSize, most_after}
 use Rattle.vcpu_machine.specs.Phase.{IsWriting, IsReading}
-use Rattle.vcpu_machine.specs.Followed.{Leads, Follows, ReadsOn}
+use Rattle.vcpu_machine.specs.Followed.{Leads, Follows, ReadsTo, PutsTo}
 use Rattle.vcpu_machine.proofs.RangeLaws.{some_piece}
 
 -- the last piece of a text is put
@@ -59,21 +59,46 @@ fetch_failed line c d got new reader o on stays at moves h = record {
   nearer = let some = some_piece c at.some at.sound in let few = h.few in omega (arith, some);
 }
 
--- and so the line goes on with the reader, once an outcome has moved the range on
-pub fetch_on : (line : Line) (moved : Moved) (c d : Cursor) (got mid new : Vec ℕ Global) (reader stays : Reader) (o : Outcome) (on : Option Followed) → IsReading c (length got.items) reader
-    → FetchMoves c got.items o moved d mid.items → IsNearer moved c d → CountsBytes moved c got.items d mid.items → ReadsOn moved mid reader on new stays
-    → Follows line (Reading c got reader) o on (Reading d new stays)
-fetch_on line More c d got mid new reader stays o on at moves nearer counted h =
-    subst (λ x. Follows line (Reading c got reader) o x (Reading d new stays)) (sym h.0)
-    (subst (λ x. Follows line (Reading c got reader) o None (Reading d x stays)) (sym h.1)
-    (subst (λ x. Follows line (Reading c got reader) o None (Reading d mid x)) (sym h.2) (fetch_more line c d got mid reader o at moves nearer counted)))
-fetch_on line Whole c d got mid new reader stays o on at moves nearer counted h =
-    subst (λ x. Follows line (Reading c got reader) o x (Reading d new stays)) (sym h.1) (fetch_whole line c d got mid.items reader o h.0 (Reading d new stays) at moves h.2)
-fetch_on line Failed c d got mid new reader stays o on at moves nearer counted h =
-    subst (λ x. Follows line (Reading c got reader) o x (Reading d new stays)) (sym h.1) (fetch_failed line c d got mid.items reader o h.0 (Reading d new stays) at moves h.2)
-fetch_on line Ended c d got mid new reader stays o on at moves nearer counted h =
-    subst (λ x. Follows line (Reading c got reader) o x (Reading d new stays)) (sym h) (record {
+pub over_by : (moved : Moved) → moved ≢ More → IsOver moved
+over_by More more = absurd (more refl)
+over_by Whole more = tt
+over_by Failed more = tt
+over_by Ended more = tt
+
+-- an outcome that moves a fetch on leaves its line there while more is to come
+pub reads_more : (line : Line) (moved : Moved) (c d : Cursor) (got : Vec ℕ Global) (new : Vec ℕ Global) (reader : Reader) (o : Outcome) → moved ≡ More → IsReading c (length got.items) reader
+    → FetchMoves c got.items o moved d new.items → IsNearer moved c d → CountsBytes moved c got.items d new.items → Follows line (Reading c got reader) o None (Reading d new reader)
+reads_more line moved c d got new reader o more at moves nearer counted =
+    fetch_more line c d got new reader o at (subst (λ m. FetchMoves c got.items o m d new.items) more moves) (subst (λ m. IsNearer m c d) more nearer)
+    (subst (λ m. CountsBytes m c got.items d new.items) more counted)
+
+-- and past the last piece it goes on with the reader
+pub reads_on : (line : Line) (moved : Moved) (c d : Cursor) (got : Vec ℕ Global) (new : List ℕ) (reader : Reader) (o : Outcome) (on : Followed) (stays : Phase) → IsOver moved → IsReading c (length got.items) reader
+    → FetchMoves c got.items o moved d new → ReadsTo moved new reader on → Follows line (Reading c got reader) o (Some on) stays
+reads_on line More c d got new reader o on stays over at moves h = absurd over
+reads_on line Whole c d got new reader o on stays over at moves h = fetch_whole line c d got new reader o on stays at moves h
+reads_on line Failed c d got new reader o on stays over at moves h = fetch_failed line c d got new reader o on stays at moves h
+reads_on line Ended c d got new reader o on stays over at moves h =
+    subst (λ x. Follows line (Reading c got reader) o (Some x) stays) (sym h) (record {
       rest = λ os. moves (after_fault reader) (after_read reader) os;
+      ready = tt;
+      nearer = let some = some_piece c at.some at.sound in omega (arith, some);
+    })
+
+-- past its last piece a put goes on with what follows the text
+pub puts_on : (line : Line) (moved : Moved) (c d : Cursor) (text : Text) (o : Outcome) (on : Followed) (stays : Phase) → IsOver moved → IsWriting line c text → PutMoves c o moved d
+    → PutsTo moved text on → Follows line (Writing c text) o (Some on) stays
+puts_on line More c d text o on stays over at moves h = absurd over
+puts_on line Whole c d text o on stays over at moves h = put_whole line c d text o on stays at moves h
+puts_on line Failed c d text o on stays over at moves h =
+    subst (λ x. Follows line (Writing c text) o (Some x) stays) (sym h.1) (record {
+      rest = λ os. moves (text_of line text) (if_not_put text) (after_put text) os at.size ∙ sym h.2;
+      ready = tt;
+      nearer = let some = some_piece c at.some at.sound in omega (arith, some);
+    })
+puts_on line Ended c d text o on stays over at moves h =
+    subst (λ x. Follows line (Writing c text) o (Some x) stays) (sym h) (record {
+      rest = λ os. moves (text_of line text) (if_not_put text) (after_put text) os at.size;
       ready = tt;
       nearer = let some = some_piece c at.some at.sound in omega (arith, some);
     })

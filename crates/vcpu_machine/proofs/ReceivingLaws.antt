@@ -1,13 +1,12 @@
 -- Laws of lines that the guest's library works through.
-use Rattle.std.proofs.Common.{◌≡◌, ◌<◌, ◌∷◌, Bool, true, Option, Result, Ok, Err, OnOk, OnErr, sym, ap, subst, ◌∙◌}
+use Rattle.std.proofs.Common.{◌≡◌, ◌<◌, ◌∷◌, Bool, true, Option, Result, Ok, Err, OnOk, OnErr, IfNone, sym, ap, subst, ◌∙◌}
 use Rattle.argo_model.specs.declared.action.Outcome.{Outcome}
 use Rattle.argo_model.specs.Programs.Recv.{say_found}
 use Rattle.argo_model.specs.declared.line.Line.{Line}
 use Rattle.guest_lib.specs.Receiving.{Receiving, ahead, left_of, IsUnderWay}
 use Rattle.vcpu_machine.specs.declared.phase.Phase.TheVariants.{Receiving as Library}
-use Rattle.vcpu_machine.specs.declared.phase.Followed.{Followed}
-use Rattle.vcpu_machine.specs.Followed.{ReceiveFollows, turned_left}
-use Rattle.vcpu_machine.specs.Going.{ReceivesAlike}
+use Rattle.argo_model.specs.declared.reply.Reply.{Reply}
+use Rattle.vcpu_machine.specs.Going.{ReceiveMoves, ReceivesAlike}
 use Rattle.vcpu_machine.specs.Phase.{GoesOnAlike}
 
 module _ (line : Line) (old new : Receiving) (h : IsUnderWay old) where
@@ -31,14 +30,14 @@ module _ (old new : Receiving) (same : new ≡ record old { ready = true }) wher
   pub receives_alike : IsUnderWay old → ReceivesAlike old new
   receives_alike h = λ line. alike_by line old new h true same
 
-  pub followed_from : (o : Outcome) (followed : Option Followed) (later : Receiving) → ReceiveFollows new o followed later → ReceiveFollows old o followed later
-  followed_from o followed later follows = λ line.
-      let f = follows line in
-      let P : Receiving → Type 0 = λ r. turned_left (Library later) followed < left_of r in
+  pub moves_from : (o : Outcome) (reply : Option Reply) (later : Receiving) → ReceiveMoves new o reply later → ReceiveMoves old o reply later
+  moves_from o reply later moves = λ line.
+      let m = moves line in
+      let P : Receiving → Type 0 = λ r. IfNone reply (left_of later < left_of r) in
       record {
-        rest = λ os. ap (λ r. ahead say_found r (o ∷ os)) (sym same) ∙ f.rest os;
-        ready = f.ready;
-        nearer = subst P same f.nearer;
+        feeds = λ os. ap (λ r. ahead say_found r (o ∷ os)) (sym same) ∙ m.feeds os;
+        at_phase = m.at_phase;
+        nearer = subst P same m.nearer;
       }
 
 pub on_err : {T E : Type 0} (r : Result T E) (P : Type 0) → P → OnErr r P

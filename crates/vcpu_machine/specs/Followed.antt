@@ -1,14 +1,11 @@
 -- Where a line goes after an outcome.
-use Rattle.std.specs.Prelude.{◌≡◌, ℕ, ◌+◌, ◌<◌, ◌≤◌, List, [], ◌∷◌, length, Option, Some, None, Vec}
-use Rattle.std.specs.declared.alloc.Global.{Global}
+use Rattle.std.specs.Prelude.{◌≡◌, ℕ, ◌+◌, ◌<◌, ◌≤◌, List, [], ◌∷◌, length, Option, Some, None}
 use Rattle.argo_base.specs.declared.piece.Piece.{Piece}
-use Rattle.vcpu_machine.specs.declared.cursor.Cursor.{Cursor}
 use Rattle.vcpu_machine.specs.declared.phase.Phase.{Phase}
-use Rattle.vcpu_machine.specs.declared.phase.Phase.TheVariants.{Reading, Writing, Asking, Receiving as Library}
+use Rattle.vcpu_machine.specs.declared.phase.Phase.TheVariants.{Asking}
 use Rattle.vcpu_machine.specs.declared.phase.Question.{Question}
 use Rattle.vcpu_machine.specs.declared.phase.Question.TheVariants.{Deliver}
 use Rattle.vcpu_machine.specs.declared.phase.Text.{Text}
-use Rattle.guest_lib.specs.Receiving.{Receiving}
 use Rattle.vcpu_machine.specs.declared.phase.Followed.{Followed}
 use Rattle.vcpu_machine.specs.declared.phase.Followed.TheVariants.{To, Over}
 use Rattle.vcpu_machine.specs.declared.phase.Reader.{Reader}
@@ -18,7 +15,9 @@ use Rattle.argo_model.specs.declared.action.Address.{Address}
 use Rattle.argo_model.specs.declared.action.Load.{Load}
 use Rattle.argo_model.specs.Programs.Asks.{Say, Rests}
 use Rattle.argo_model.specs.Programs.Asks.{collect}
+use Rattle.argo_model.specs.declared.reply.Reply.{Reply}
 use Rattle.argo_model.specs.declared.reply.Reply.TheVariants.{Gone}
+use Rattle.vcpu_machine.specs.Text.{after_put, if_not_put, most_after_put}
 use Rattle.vcpu_machine.specs.declared.ranges.Moved.{Moved}
 use Rattle.vcpu_machine.specs.declared.ranges.Moved.TheVariants.{More, Whole, Failed, Ended}
 use Rattle.vcpu_machine.specs.Reader.{after_read, after_fault, HasSize, most_after}
@@ -64,26 +63,13 @@ pub record Follows (line : Line) (old : Phase) (outcome : Outcome) (o : Option F
   pub ready : IsTurned line stays o
   pub nearer : turned_left stays o < phase_left old
 
--- and so does one that puts
-abbrev pub PutFollows : Line → Text → Cursor → Outcome → Option Followed → Cursor → Type 0
-PutFollows line text c outcome o later = Follows line (Writing c text) outcome o (Writing later text)
-
--- one that asks, whichever line it is, and stays nowhere
+-- and so does one that asks, whichever line it is, and stays nowhere
 abbrev pub AskFollows : Question → Outcome → Followed → Type 0
 AskFollows q outcome o = (line : Line) (stays : Phase) → Follows line (Asking q) outcome (Some o) stays
 
 -- one that delivers, whatever and wherever to
 abbrev pub Sends : Outcome → Followed → Type 0
 Sends outcome o = (to : Address) (load : Load) → AskFollows (Deliver to load) outcome o
-
--- one that the library works through
-abbrev pub ReceiveFollows : Receiving → Outcome → Option Followed → Receiving → Type 0
-ReceiveFollows r outcome o after = (line : Line) → Follows line (Library r) outcome o (Library after)
-
--- and one that fetches
-abbrev pub Fetches : Cursor → Vec ℕ Global → Reader → Outcome → Option Followed → Cursor → Vec ℕ Global → Reader → Type 0
-Fetches c got reader outcome o later new_got new_reader =
-    (line : Line) → Follows line (Reading c got reader) outcome o (Reading later new_got new_reader)
 
 -- where the last piece was fetched, there are so many bytes as the reader wants
 abbrev pub IsWhole : Moved → ℕ → Reader → Type 0
@@ -92,12 +78,19 @@ IsWhole Whole n reader = HasSize n reader
 IsWhole Failed n reader = Unit {0}
 IsWhole Ended n reader = Unit {0}
 
--- once an outcome has moved a fetch on, the line stays where more is to come, and else goes on with the reader
-abbrev pub ReadsOn : Moved → Vec ℕ Global → Reader → Option Followed → Vec ℕ Global → Reader → Type 0
-ReadsOn More got reader o new_got new_reader = (o ≡ None) × (new_got ≡ got) × (new_reader ≡ reader)
-ReadsOn Whole got reader o new_got new_reader = (on : Followed) × (o ≡ Some on) × Leads (after_read reader got.items) (most_after reader) on
-ReadsOn Failed got reader o new_got new_reader = (on : Followed) × (o ≡ Some on) × Leads (after_fault reader) (most_after reader) on
-ReadsOn Ended got reader o new_got new_reader = o ≡ Some (Over Gone)
+-- past its last piece a line that fetches goes on with the reader of these bytes
+abbrev pub ReadsTo : Moved → List ℕ → Reader → Followed → Type 0
+ReadsTo More got reader o = Unit {0}
+ReadsTo Whole got reader o = Leads (after_read reader got) (most_after reader) o
+ReadsTo Failed got reader o = Leads (after_fault reader) (most_after reader) o
+ReadsTo Ended got reader o = o ≡ Over Gone
+
+-- and one that puts with what follows the text
+abbrev pub PutsTo : Moved → Text → Followed → Type 0
+PutsTo More text o = Unit {0}
+PutsTo Whole text o = Leads (after_put text) (most_after_put text) o
+PutsTo Failed text o = (reply : Reply) × (o ≡ Over reply) × (Say reply ≡ if_not_put text)
+PutsTo Ended text o = o ≡ Over Gone
 
 -- all of these pieces are to be fetched
 pub record Reads (ps : List Piece) (reader : Reader) (phase : Phase) : Type 0 where

@@ -18,7 +18,7 @@ use Rattle.vcpu_machine.specs.declared.phase.Followed.TheVariants.{To, Over}
 use Rattle.vcpu_machine.specs.declared.phase.Phase.{Phase}
 use Rattle.vcpu_machine.specs.declared.phase.Phase.TheVariants.{Receiving as Library}
 use Rattle.vcpu_machine.specs.declared.phase.Question.{Question}
-use Rattle.vcpu_machine.specs.Followed.{AskFollows, ReceiveFollows}
+use Rattle.vcpu_machine.specs.Followed.{AskFollows}
 use Rattle.vcpu_machine.specs.Phase.{rest_of, IsAtPhase, phase_left, Feeds, GoesOnAlike}
 use Rattle.vcpu_machine.specs.Question.{action_of}
 use Rattle.vcpu_machine.specs.Ranges.{PutsFirst}
@@ -51,10 +51,14 @@ abbrev pub Asks : List Actor → ℕ → Question → Option State → List Tota
 Asks actors v q before counted followed after counts =
     (o : Outcome) × Performs actors v (Do (action_of q)) before counted o after counts × AskFollows q o followed
 
--- and one of the library
-abbrev pub Receives : List Actor → ℕ → Receiving → Option State → List Totals → Option Followed → Receiving → Option State → List Totals → Type 0
-Receives actors v r before counted followed new after counts =
-    (o : Outcome) × Performs actors v (ahead say_found r []) before counted o after counts × ReceiveFollows r o followed new
+-- a line that the library works through, whichever it is
+abbrev pub ReceiveMoves : Receiving → Outcome → Option Reply → Receiving → Type 0
+ReceiveMoves r outcome reply after = (line : Line) → Moves line (Library r) outcome reply (Library after)
+
+-- and so was the library's action
+abbrev pub Receives : List Actor → ℕ → Receiving → Option State → List Totals → Option Reply → Receiving → Option State → List Totals → Type 0
+Receives actors v r before counted reply new after counts =
+    (o : Outcome) × Performs actors v (ahead say_found r []) before counted o after counts × ReceiveMoves r o reply new
 
 -- whichever line it is, the library goes on alike
 abbrev pub ReceivesAlike : Receiving → Receiving → Type 0
@@ -71,8 +75,7 @@ pub record Puts (actors : List Actor) (v : ℕ) (rest : Cursor) (bytes : List �
 abbrev pub MayPut : List Actor → ℕ → Cursor → List ℕ → Type 0
 MayPut actors v rest bytes = (put : Action) → PutsFirst rest bytes put → IsTrue (is_fit put) → IsTrue (is_fit_at actors v put)
 
--- the phase at which a line is that went somewhere or stayed, and its reply
-abbrev pub Settles : Option Followed → Phase → Option Reply → Phase → Type 0
-Settles None old reply new = (reply ≡ None) × (new ≡ old)
-Settles (Some (To phase)) old reply new = (reply ≡ None) × (new ≡ phase)
-Settles (Some (Over said)) old reply new = reply ≡ Some said
+-- the phase at which a line is that went somewhere, or its reply
+abbrev pub Settles : Followed → Option Reply → Phase → Type 0
+Settles (To phase) reply new = (reply ≡ None) × (new ≡ phase)
+Settles (Over said) reply new = reply ≡ Some said

@@ -35,6 +35,13 @@ moved_to Whole more whole failed = whole
 moved_to Failed more whole failed = failed
 moved_to Ended more whole failed = Say Gone
 
+-- nothing more of the range is to come
+abbrev pub IsOver : Moved → Type 0
+IsOver More = ⊥
+IsOver Whole = Unit {0}
+IsOver Failed = Unit {0}
+IsOver Ended = Unit {0}
+
 -- where more of the range is to come, it is less than before
 abbrev pub IsNearer : Moved → Cursor → Cursor → Type 0
 IsNearer More old new = (0 < new.left) × (new.left ≤ old.left) × (length (pieces_left new) < length (pieces_left old)) × IsSound new

@@ -1,15 +1,16 @@
 //! A line from its first action to its reply.
 
-ghost use Rattle.std.specs.Prelude.{◌≡◌, ◌<◌, ◌≤◌, List, [], ◌∷◌, IsTrue, IfOk, IsOk, OnOk, OnErr, IfNone};
+ghost use Rattle.std.specs.Prelude.{◌≡◌, ◌<◌, ◌≤◌, List, [], ◌∷◌, IsTrue, IfOk, IsOk, OnOk, OnErr};
 ghost use Rattle.argo_model.specs.Rules.Access.{has_steps_left};
 ghost use Rattle.argo_model.specs.Rules.Fit.{is_fit};
 ghost use Rattle.argo_model.specs.Programs.Program.{Do};
 
 use crate::call::{Call, caller_of};
 use crate::cursor::Cursor;
-use crate::fetch::{fetch_first, fetched, shown};
+use crate::fetch::{fetch_first, read_on};
 use crate::looking::looked;
 use crate::phase::{Followed, Phase, Question, Reader, Text};
+use crate::ranges::{Moved, fetch_moved, put_moved, seen_moved};
 use crate::reading::reading;
 use crate::receiving::{receive, received};
 use argo_base::NoMemory;
@@ -20,9 +21,8 @@ use std::alloc::Global;
 impl Phase {
     ghost use Rattle.vcpu_machine.specs.Steps.{most_steps};
     ghost use Rattle.argo_model.specs.Programs.Asks.{CanFollow};
-    ghost use Rattle.vcpu_machine.specs.Phase.{rest_of, takes_none, IsAtPhase, HasRoom, GoesOnAlike, phase_left, Feeds, StandsForAll, is_line_for};
-    ghost use Rattle.vcpu_machine.specs.Followed.{Follows};
-    ghost use Rattle.vcpu_machine.specs.Going.{MayGo, Goes, Settles};
+    ghost use Rattle.vcpu_machine.specs.Phase.{rest_of, takes_none, IsAtPhase, HasRoom, GoesOnAlike, phase_left, StandsForAll, is_line_for};
+    ghost use Rattle.vcpu_machine.specs.Going.{MayGo, Goes, Moves, Settles};
 
     /// The phase at which a line of an actor begins.
     pub(crate) fn start(alloc: Global, actor: Actor, line: &Line) -> Phase
@@ -101,58 +101,40 @@ impl Phase {
             Phase::Reading { rest, got, reader } => {
                 got.reserve(reader.room(rest.left))?;
                 let (piece, _) = rest.split_first();
-                let followed = shown(alloc, rest, got, reader, a.seen(v, piece));
+                let moved = seen_moved(rest, got, a.seen(v, piece));
                 a.count(v);
+                if let Moved::More = moved {
+                    return Ok(None);
+                }
+                let followed = read_on(alloc, got, reader, moved);
                 Ok(self.settle(followed))
             }
             Phase::Writing { rest, text } => {
                 let outcome = text.put_in(line, *rest, v, a)?;
-                let followed = text.moved(alloc, line, rest, &outcome);
+                let moved = put_moved(rest, &outcome);
+                if let Moved::More = moved {
+                    return Ok(None);
+                }
+                let followed = text.put_on(alloc, moved);
                 Ok(self.settle(followed))
             }
             Phase::Asking(question) => {
                 let followed = question.go(alloc, v, a)?;
-                Ok(self.settle(Some(followed)))
+                Ok(self.settle(followed))
             }
             Phase::Looking { later } => {
                 let outcome = a.act(v, Action::Look)?;
-                let followed = looked(later, &outcome);
-                Ok(self.settle(followed))
+                Ok(looked(later, &outcome))
             }
-            Phase::Receiving(recv) => {
-                let followed = receive(recv, v, a)?;
-                Ok(self.settle(followed))
-            }
+            Phase::Receiving(recv) => receive(recv, v, a),
             Phase::Ended => unreachable!(),
         }
     }
 
-    // Goes to a phase, or stays, or answers the reply.
-    fn settle(&mut self, followed: Option<Followed>) -> Option<Reply>
-        ensures { Settles followed self.old result self.new }
+    // Goes to the next phase, or answers the reply.
+    fn settle(&mut self, followed: Followed) -> Option<Reply>
+        ensures { Settles followed result self.new }
     {
-        match followed {
-            None => None,
-            Some(Followed::To(phase)) => {
-                *self = phase;
-                None
-            }
-            Some(Followed::Over(reply)) => Some(reply),
-        }
-    }
-
-    /// Takes the outcome of the next action, and answers the reply where the line then has it.
-    pub(crate) fn feed(&mut self, alloc: Global, line: &Line, outcome: &Outcome) -> Option<Reply>
-        requires at_phase { IsAtPhase line.now self.old }
-        requires room { HasRoom self.old }
-        requires can { CanFollow (rest_of line.now self.old []) outcome.now }
-        ensures fed { Feeds line.now self.old outcome.now result self.new }
-        ensures at_phase { IfNone result (IsAtPhase line.now self.new) }
-        ensures nearer { IfNone result (phase_left self.new < phase_left self.old) }
-    {
-        let Some(followed) = self.turned(alloc, line, outcome) else {
-            return None;
-        };
         match followed {
             Followed::To(phase) => {
                 *self = phase;
@@ -162,17 +144,34 @@ impl Phase {
         }
     }
 
-    // Where the line goes with an outcome. Where it goes nowhere, the phase is moved on in place.
-    fn turned(&mut self, alloc: Global, line: &Line, outcome: &Outcome) -> Option<Followed>
+    /// Takes the outcome of the next action, and answers the reply where the line then has it.
+    pub(crate) fn feed(&mut self, alloc: Global, line: &Line, outcome: &Outcome) -> Option<Reply>
         requires at_phase { IsAtPhase line.now self.old }
         requires room { HasRoom self.old }
         requires can { CanFollow (rest_of line.now self.old []) outcome.now }
-        ensures { Follows line.now self.old outcome.now result self.new }
+        ensures { Moves line.now self.old outcome.now result self.new }
     {
         match self {
-            Phase::Reading { rest, got, reader } => fetched(alloc, rest, got, reader, outcome),
-            Phase::Writing { rest, text } => text.moved(alloc, line, rest, outcome),
-            Phase::Asking(question) => Some(question.asked(alloc, outcome)),
+            Phase::Reading { rest, got, reader } => {
+                let moved = fetch_moved(rest, got, outcome);
+                if let Moved::More = moved {
+                    return None;
+                }
+                let followed = read_on(alloc, got, reader, moved);
+                self.settle(followed)
+            }
+            Phase::Writing { rest, text } => {
+                let moved = put_moved(rest, outcome);
+                if let Moved::More = moved {
+                    return None;
+                }
+                let followed = text.put_on(alloc, moved);
+                self.settle(followed)
+            }
+            Phase::Asking(question) => {
+                let followed = question.asked(alloc, outcome);
+                self.settle(followed)
+            }
             Phase::Looking { later } => looked(later, outcome),
             Phase::Receiving(recv) => received(recv, outcome),
             Phase::Ended => unreachable!(),

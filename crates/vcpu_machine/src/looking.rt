@@ -1,23 +1,22 @@
 //! A line that looks at its flag.
 
 ghost use Rattle.std.specs.Prelude.{◌≡◌};
-ghost use Rattle.vcpu_machine.specs.Looking.{is_signal as tells_signal, LookFollows};
+ghost use Rattle.vcpu_machine.specs.Looking.{is_signal as tells_signal, LookMoves};
 
-use crate::phase::Followed;
 use argo_model::{Outcome, Reply};
 
-/// Where the line goes with an outcome of a look, with so many to come; nowhere where it looks again.
-pub(crate) fn looked(later: &mut u32, outcome: &Outcome) -> Option<Followed>
-    ensures { LookFollows later.old outcome.now result later.new }
+/// The reply with an outcome of a look, with so many to come; none where the line looks again.
+pub(crate) fn looked(later: &mut u32, outcome: &Outcome) -> Option<Reply>
+    ensures { LookMoves later.old outcome.now result later.new }
 {
     if let Outcome::Gone = outcome {
-        return Some(Followed::Over(Reply::Gone));
+        return Some(Reply::Gone);
     }
     if is_signal(outcome) {
-        return Some(Followed::Over(Reply::Signal));
+        return Some(Reply::Signal);
     }
     if *later == 0 {
-        return Some(Followed::Over(Reply::NoSignal));
+        return Some(Reply::NoSignal);
     }
     *later -= 1;
     None

@@ -6,10 +6,8 @@ ghost use Rattle.argo_model.specs.Programs.Recv.{say_found};
 ghost use Rattle.argo_model.specs.declared.action.Outcome.TheVariants.{Bytes as BytesCame};
 ghost use Rattle.argo_model.specs.Rules.Access.{has_steps_left, outcome_unseen};
 ghost use Rattle.guest_lib.specs.Receiving.{ahead, IsUnderWay, CanFeed, IsShort, ended};
-ghost use Rattle.vcpu_machine.specs.Followed.{ReceiveFollows};
-ghost use Rattle.vcpu_machine.specs.Going.{MayGo, Receives, ReceivesAlike};
+ghost use Rattle.vcpu_machine.specs.Going.{MayGo, ReceiveMoves, Receives, ReceivesAlike};
 
-use crate::phase::Followed;
 use argo_base::{Bytes, NoMemory, Piece};
 use argo_model::{Access, Action, Outcome, Reply, Unseen};
 use guest_lib::{Received, Recv};
@@ -17,30 +15,30 @@ use guest_lib::{Received, Recv};
 /// The first bytes of a body, which a reply shows.
 const SHOWN_BYTES: usize = 64;
 
-/// Where the line goes with an outcome of the library's next action; nowhere while the library goes on.
-pub(crate) fn received(recv: &mut Recv, outcome: &Outcome) -> Option<Followed>
+/// The reply with an outcome of the library's next action; none while the library goes on.
+pub(crate) fn received(recv: &mut Recv, outcome: &Outcome) -> Option<Reply>
     requires under_way { IsUnderWay recv.old }
     requires ready { IsTrue recv.old.ready }
     requires can { CanFeed recv.old outcome.now }
-    ensures { ReceiveFollows recv.old outcome.now result recv.new }
+    ensures { ReceiveMoves recv.old outcome.now result recv.new }
 {
     match recv.feed_by(outcome) {
         None => None,
-        Some(found) => Some(Followed::Over(reply_of(found))),
+        Some(found) => Some(reply_of(found)),
     }
 }
 
-/// Performs the library's next action in a world: where the line then goes; nowhere while the library goes on.
+/// Performs the library's next action as section `v` of a world, and answers the reply where the line then has it.
 pub(crate) fn receive<A: Access>(
     recv: &mut Recv,
     v: u32,
     a: &mut A,
-) -> Result<Option<Followed>, NoMemory>
+) -> Result<Option<Reply>, NoMemory>
     requires under_way { IsUnderWay recv.old }
     requires may { MayGo (A.actors a.old) v (ahead say_found recv.old []) }
     requires few { IsTrue (has_steps_left (A.totals a.old) v) }
-    ensures ok { IfOk result (λ followed. Receives (A.actors a.old) v recv.old (A.told a.old)
-        (A.totals a.old) followed recv.new (A.told a.new) (A.totals a.new)) }
+    ensures ok { IfOk result (λ reply. Receives (A.actors a.old) v recv.old (A.told a.old)
+        (A.totals a.old) reply recv.new (A.told a.new) (A.totals a.new)) }
     ensures err { OnErr result (ReceivesAlike recv.old recv.new) }
     ensures err_room { OnErr result (IsTrue recv.old.ready → IsTrue recv.new.ready) }
     ensures actors { A.actors a.new ≡ A.actors a.old }
@@ -49,9 +47,9 @@ pub(crate) fn receive<A: Access>(
 {
     match recv.next()? {
         Action::Fetch { page, off, n } => {
-            let followed = heard(recv, a.seen(v, Piece { page, off, n }));
+            let reply = heard(recv, a.seen(v, Piece { page, off, n }));
             a.count(v);
-            Ok(followed)
+            Ok(reply)
         }
         Action::Put { page, off, bytes } => {
             let outcome = a.put(v, page, off, bytes.as_slice())?;
@@ -62,19 +60,19 @@ pub(crate) fn receive<A: Access>(
 }
 
 // As `received`, with the bytes of a fetch where they stand, or why there are none.
-fn heard(recv: &mut Recv, seen: Result<&[u8], Unseen>) -> Option<Followed>
+fn heard(recv: &mut Recv, seen: Result<&[u8], Unseen>) -> Option<Reply>
     requires under_way { IsUnderWay recv.old }
     requires ready { IsTrue recv.old.ready }
     requires can { IfOk seen (λ bytes. CanFeed recv.old (BytesCame bytes.now)) }
     requires can_not { IfErr seen (λ u. CanFeed recv.old (outcome_unseen u)) }
     ensures bytes { IfOk seen.entry
-        (λ bytes. ReceiveFollows recv.old (BytesCame bytes.now) result recv.new) }
+        (λ bytes. ReceiveMoves recv.old (BytesCame bytes.now) result recv.new) }
     ensures unseen { IfErr seen.entry
-        (λ u. ReceiveFollows recv.old (outcome_unseen u) result recv.new) }
+        (λ u. ReceiveMoves recv.old (outcome_unseen u) result recv.new) }
 {
     match recv.hear(seen) {
         None => None,
-        Some(found) => Some(Followed::Over(reply_of(found))),
+        Some(found) => Some(reply_of(found)),
     }
 }
 

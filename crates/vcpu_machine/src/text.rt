@@ -6,13 +6,13 @@ ghost use Rattle.argo_model.specs.Rules.Access.{has_steps_left};
 ghost use Rattle.argo_model.specs.Rules.Fit.{is_fit};
 ghost use Rattle.argo_model.specs.Programs.Asks.{Say, Do, Next, Rests, put_all};
 ghost use Rattle.vcpu_machine.specs.Going.{MayPut, Puts};
-ghost use Rattle.vcpu_machine.specs.Ranges.{PutsFirst};
+ghost use Rattle.vcpu_machine.specs.Ranges.{IsOver, PutsFirst};
 ghost use Rattle.vcpu_machine.specs.Text.{stored_by};
 
 use crate::cursor::Cursor;
 use crate::layout::{answer_bytes, answer_text};
 use crate::phase::{Followed, Phase, Text};
-use crate::ranges::{Moved, put_moved};
+use crate::ranges::Moved;
 use crate::reading::refusal;
 use argo_base::{Bytes, Errno, NoMemory};
 use argo_model::{Access, Action, Line, Outcome, Reply};
@@ -21,7 +21,7 @@ use std::alloc::Global;
 impl Text {
     ghost use Rattle.vcpu_machine.specs.Text.{text_of, after_put, if_not_put, IsText, most_after_put};
     ghost use Rattle.vcpu_machine.specs.Phase.{rest_of, IsWriting};
-    ghost use Rattle.vcpu_machine.specs.Followed.{Leads, PutFollows};
+    ghost use Rattle.vcpu_machine.specs.Followed.{Leads, PutsTo};
     ghost use Rattle.vcpu_machine.specs.Going.{MayGo, Performs};
 
     /// The put of the first piece of what is left of a range.
@@ -69,22 +69,17 @@ impl Text {
         }
     }
 
-    /// Where a line goes that puts, with an outcome of the first piece; nowhere while others are to come.
-    pub(crate) fn moved(
-        &self,
-        alloc: Global,
-        line: &Line,
-        rest: &mut Cursor,
-        outcome: &Outcome,
-    ) -> Option<Followed>
-        requires { IsWriting line.now rest.old self.now }
-        ensures { PutFollows line.now self.now rest.old outcome.now result rest.new }
+    /// Where a line goes that puts, once an outcome has moved it past its last piece.
+    pub(crate) fn put_on(&self, alloc: Global, moved: Moved) -> Followed
+        requires over { IsOver moved }
+        requires text { IsText self.now }
+        ensures { PutsTo moved self.now result }
     {
-        match put_moved(rest, outcome) {
-            Moved::More => None,
-            Moved::Whole => Some(self.put(alloc)),
-            Moved::Failed => Some(Followed::Over(self.failed())),
-            Moved::Ended => Some(Followed::Over(Reply::Gone)),
+        match moved {
+            Moved::More => unreachable!(),
+            Moved::Whole => self.put(alloc),
+            Moved::Failed => Followed::Over(self.failed()),
+            Moved::Ended => Followed::Over(Reply::Gone),
         }
     }
 

@@ -4,14 +4,13 @@ use Rattle.argo_model.specs.declared.action.Outcome.{Outcome}
 use Rattle.argo_model.specs.Programs.Asks.{Do}
 use Rattle.argo_model.specs.Programs.Recv.{say_found}
 use Rattle.guest_lib.specs.Receiving.{ahead}
-use Rattle.vcpu_machine.specs.Followed.{ReceiveFollows}
-use Rattle.vcpu_machine.specs.Going.{ReceivesAlike}
-use Rattle.vcpu_machine.proofs.ReceivingLaws.{still_under_way, receives_alike, followed_from, on_err}
+use Rattle.vcpu_machine.specs.Going.{ReceiveMoves, ReceivesAlike}
+use Rattle.vcpu_machine.proofs.ReceivingLaws.{still_under_way, receives_alike, moves_from, on_err}
 use Rattle.vcpu_machine.proofs.SeenLaws.{seen_performs}
 use Rattle.vcpu_machine.proofs.receiving.receive.Goals as goal
 
-pub heard-followed-requires-clause-under_way : goal.heard-followed-requires-clause-under_way
-heard-followed-requires-clause-under_way g c = still_under_way c.args.recv.now c.next.new.self c.in_ok-page.ensures.ok c.requires.under_way
+pub heard-reply-requires-clause-under_way : goal.heard-reply-requires-clause-under_way
+heard-reply-requires-clause-under_way g c = still_under_way c.args.recv.now c.next.new.self c.in_ok-page.ensures.ok c.requires.under_way
 
 pub received-requires-clause-under_way : goal.received-requires-clause-under_way
 received-requires-clause-under_way g c = still_under_way c.args.recv.now c.next.new.self c.in_ok-page.ensures.ok c.requires.under_way
@@ -25,12 +24,12 @@ pub returns-in-Fetch-clause-ok : goal.returns-in-Fetch-clause-ok
 returns-in-Fetch-clause-ok g c =
     let r = c.args.recv.now in
     let f = c.in-Fetch in
-    let P : Outcome → Type 0 = λ o. ReceiveFollows c.next.new.self o c.heard-followed.result c.heard-followed.new.recv in
+    let P : Outcome → Type 0 = λ o. ReceiveMoves c.next.new.self o c.heard-reply.result c.heard-reply.new.recv in
     let does = c.in_ok-page.ensures.does say_found ∙ ap Do c.in-Fetch.is in
     let came = seen_performs (g.A.Access.actors c.args.a.now) c.args.v (record { page = f.page; off = f.off; n = f.n }) (g.A.Access.told c.args.a.now) (g.A.Access.told c.count.new.self)
     (g.A.Access.totals c.args.a.now) (g.A.Access.totals c.count.new.self) (ahead say_found r []) does c.count.ensures.told_stays c.count.ensures.counts
-    P c.seen.result c.seen.ensures.bytes c.seen.ensures.unseen c.heard-followed.ensures.bytes c.heard-followed.ensures.unseen in
-    (came.0, came.1, followed_from r c.next.new.self c.in_ok-page.ensures.ok came.0 c.heard-followed.result c.heard-followed.new.recv came.2)
+    P c.seen.result c.seen.ensures.bytes c.seen.ensures.unseen c.heard-reply.ensures.bytes c.heard-reply.ensures.unseen in
+    (came.0, came.1, moves_from r c.next.new.self c.in_ok-page.ensures.ok came.0 c.heard-reply.result c.heard-reply.new.recv came.2)
 
 pub returns-in_ok-outcome-in-Put-clause-ok : goal.returns-in_ok-outcome-in-Put-clause-ok
 returns-in_ok-outcome-in-Put-clause-ok g c =
@@ -43,5 +42,5 @@ returns-in_ok-outcome-in-Put-clause-ok g c =
         acts = c.in_ok-outcome-in-Put.ensures.acts;
         counts_are = c.in_ok-outcome-in-Put.ensures.counts;
       },
-      followed_from r c.next.new.self c.in_ok-page.ensures.ok o c.received.result c.received.new.recv c.received.ensures,
+      moves_from r c.next.new.self c.in_ok-page.ensures.ok o c.received.result c.received.new.recv c.received.ensures,
     )

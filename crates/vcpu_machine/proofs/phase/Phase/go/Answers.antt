@@ -1,81 +1,117 @@
-use Rattle.std.proofs.Common.{[], refl, ap}
+use Rattle.std.proofs.Common.{ℕ, List, [], IfOk, IfErr, refl, ap, subst}
+use Rattle.std.proofs.lemmas.Result.{IfOk-weaker, on_err_weaker}
 use Rattle.argo_model.specs.declared.action.Action.TheVariants.{Look}
 use Rattle.argo_model.specs.declared.action.Outcome.{Outcome}
+use Rattle.argo_model.specs.declared.action.Outcome.TheVariants.{Bytes}
 use Rattle.argo_model.specs.Programs.Asks.{collect}
+use Rattle.argo_model.specs.Rules.Access.{outcome_unseen}
 use Rattle.vcpu_machine.specs.declared.phase.Phase.{Phase}
-use Rattle.vcpu_machine.specs.declared.phase.Phase.TheVariants.{Reading, Writing, Asking, Looking, Receiving}
-use Rattle.vcpu_machine.specs.Followed.{Fetches}
-use Rattle.vcpu_machine.specs.Phase.{rest_of, GoesOnAlike}
+use Rattle.vcpu_machine.specs.declared.phase.Phase.TheVariants.{Reading, Writing, Asking}
+use Rattle.vcpu_machine.specs.Phase.{rest_of}
+use Rattle.vcpu_machine.specs.Ranges.{FetchMoves, CountsBytes}
 use Rattle.vcpu_machine.specs.Reader.{after_read, after_fault}
-use Rattle.vcpu_machine.proofs.GoingLaws.{moves_by, follows_alike}
-use Rattle.vcpu_machine.proofs.ReceivingLaws.{on_err}
+use Rattle.vcpu_machine.proofs.GoingLaws.{moves_stay, moves_by}
+use Rattle.vcpu_machine.proofs.MovedLaws.{over_by, reads_more, reads_on, puts_on}
 use Rattle.vcpu_machine.proofs.SeenLaws.{seen_performs}
 use Rattle.vcpu_machine.proofs.phase.Phase.go.Goals as goal
 
-pub returns-in_err-followed-in-Receiving-clause-err : goal.returns-in_err-followed-in-Receiving-clause-err
-returns-in_err-followed-in-Receiving-clause-err g c =
-    rw c.in-Receiving.is
-    (on_err c.from_residual-in_err-followed-in-Receiving.result (GoesOnAlike c.args.line.now (Receiving c.in-Receiving.recv) (Receiving c.receive.new.recv))
-    (c.in_err-followed-in-Receiving.ensures.err c.args.line.now))
-
-pub returns-in_ok-reserve-in-Reading-clause-ok : goal.returns-in_ok-reserve-in-Reading-clause-ok
-returns-in_ok-reserve-in-Reading-clause-ok g c =
+pub returns-in-More-clause-ok : goal.returns-in-More-clause-ok
+returns-in-More-clause-ok g c =
     let r = c.in-Reading in
-    let s = c.shown-followed in
-    let line = c.args.line.now in
+    let m = c.seen_moved-moved in
     let old : Phase = Reading r.rest r.got r.reader in
-    let P : Outcome → Type 0 = λ o. Fetches r.rest c.reserve.new.self r.reader o s.result s.new.rest s.new.got s.new.reader in
+    let at = rw r.is at c.requires.at_phase in
+    let same = c.reserve.ensures.items in
+    let P : Outcome → Type 0 = λ o. FetchMoves r.rest r.got.items o m.result m.new.rest m.new.got.items in
+    let bytes = subst (λ (bs : List ℕ). IfOk c.seen.result (λ b. FetchMoves r.rest bs (Bytes b.now) m.result m.new.rest m.new.got.items)) same m.ensures.bytes in
+    let unseen = subst (λ (bs : List ℕ). IfErr c.seen.result (λ u. FetchMoves r.rest bs (outcome_unseen u) m.result m.new.rest m.new.got.items)) same m.ensures.unseen in
     let does = ap (λ ps. collect ps r.got.items (after_fault r.reader) (after_read r.reader) []) c.split_first.ensures.pieces in
     let came = seen_performs (g.A.Access.actors c.args.a.now) c.args.v c.split_first.result.0 (g.A.Access.told c.args.a.now) (g.A.Access.told c.count.new.self)
-    (g.A.Access.totals c.args.a.now) (g.A.Access.totals c.count.new.self) (rest_of line old []) does c.count.ensures.told_stays c.count.ensures.counts
-    P c.seen.result c.seen.ensures.bytes c.seen.ensures.unseen s.ensures.bytes s.ensures.unseen in
-    let stays : Phase = Reading s.new.rest s.new.got s.new.reader in
+    (g.A.Access.totals c.args.a.now) (g.A.Access.totals c.count.new.self) (rest_of c.args.line.now old []) does c.count.ensures.told_stays c.count.ensures.counts
+    P c.seen.result c.seen.ensures.bytes c.seen.ensures.unseen bytes unseen in
+    let counted = subst (λ (bs : List ℕ). CountsBytes m.result r.rest bs m.new.rest m.new.got.items) same m.ensures.counted in
     rw r.is (
       came.0,
       came.1,
-      moves_by line old stays c.settle.new.self came.0 s.result c.settle.result
-          (follows_alike line r.rest r.got c.reserve.new.self r.reader came.0 s.result stays c.reserve.ensures.items (came.2 line)) c.settle.ensures,
+      moves_stay c.args.line.now old (Reading m.new.rest m.new.got r.reader) came.0
+          (reads_more c.args.line.now m.result r.rest m.new.rest r.got m.new.got r.reader came.0 c.in-More.is at came.2 m.ensures.nearer counted),
     )
 
-pub returns-in_ok-outcome-in-Writing-clause-ok : goal.returns-in_ok-outcome-in-Writing-clause-ok
-returns-in_ok-outcome-in-Writing-clause-ok g c =
+pub returns-in_default : goal.returns-in_default
+returns-in_default g c =
+    let r = c.in-Reading in
+    let m = c.seen_moved-moved in
+    let old : Phase = Reading r.rest r.got r.reader in
+    let at = rw r.is at c.requires.at_phase in
+    let same = c.reserve.ensures.items in
+    let P : Outcome → Type 0 = λ o. FetchMoves r.rest r.got.items o m.result m.new.rest m.new.got.items in
+    let bytes = subst (λ (bs : List ℕ). IfOk c.seen.result (λ b. FetchMoves r.rest bs (Bytes b.now) m.result m.new.rest m.new.got.items)) same m.ensures.bytes in
+    let unseen = subst (λ (bs : List ℕ). IfErr c.seen.result (λ u. FetchMoves r.rest bs (outcome_unseen u) m.result m.new.rest m.new.got.items)) same m.ensures.unseen in
+    let does = ap (λ ps. collect ps r.got.items (after_fault r.reader) (after_read r.reader) []) c.split_first.ensures.pieces in
+    let came = seen_performs (g.A.Access.actors c.args.a.now) c.args.v c.split_first.result.0 (g.A.Access.told c.args.a.now) (g.A.Access.told c.count.new.self)
+    (g.A.Access.totals c.args.a.now) (g.A.Access.totals c.count.new.self) (rest_of c.args.line.now old []) does c.count.ensures.told_stays c.count.ensures.counts
+    P c.seen.result c.seen.ensures.bytes c.seen.ensures.unseen bytes unseen in
+    let on = c.read_on-followed in
+    rw r.is
+    (record {
+      ok = (
+        came.0,
+        came.1,
+        moves_by c.args.line.now old old c.settle.new.self came.0 on.result c.settle.result
+            (reads_on c.args.line.now m.result r.rest m.new.rest r.got m.new.got.items r.reader came.0 on.result old (over_by m.result c.in_default.not-More) at came.2 on.ensures) c.settle.ensures,
+      );
+      err = tt;
+      err_room = tt;
+      actors = c.count.ensures.actors_stay;
+      err_told = tt;
+      err_totals = tt;
+    })
+
+pub returns-in_default-moved : goal.returns-in_default-moved
+returns-in_default-moved g c =
     let w = c.in-Writing in
+    let m = c.put_moved-moved in
+    let on = c.put_on-followed in
     let o = c.in_ok-outcome-in-Writing.outcome in
-    rw w.is (
-      o,
-      c.in_ok-outcome-in-Writing.ensures.ok,
-      moves_by c.args.line.now (Writing w.rest w.text) (Writing c.moved-followed.new.rest w.text) c.settle-in-Writing.new.self o c.moved-followed.result c.settle-in-Writing.result
-          c.moved-followed.ensures c.settle-in-Writing.ensures,
-    )
+    let old : Phase = Writing w.rest w.text in
+    let at = rw w.is at c.requires.at_phase in
+    rw w.is
+    (record {
+      ok = (
+        o,
+        c.in_ok-outcome-in-Writing.ensures.ok,
+        moves_by c.args.line.now old old c.settle-in-Writing.new.self o on.result c.settle-in-Writing.result
+            (puts_on c.args.line.now m.result w.rest m.new.rest w.text o on.result old (over_by m.result c.in_default-moved.not-More) at m.ensures.moves on.ensures) c.settle-in-Writing.ensures,
+      );
+      err = tt;
+      err_room = tt;
+      actors = c.in_ok-outcome-in-Writing.ensures.actors;
+      err_told = tt;
+      err_totals = tt;
+    })
 
 pub returns-in_ok-followed-in-Asking-clause-ok : goal.returns-in_ok-followed-in-Asking-clause-ok
 returns-in_ok-followed-in-Asking-clause-ok g c =
     let f = c.in_ok-followed-in-Asking in
     let asks = f.ensures.ok in
-    let stays : Phase = Asking c.go.new.self in
+    let old : Phase = Asking c.in-Asking.question in
     rw c.in-Asking.is (
       asks.0,
       asks.1,
-      moves_by c.args.line.now (Asking c.in-Asking.question) stays c.settle-in-Asking.new.self asks.0 _ c.settle-in-Asking.result (asks.2 c.args.line.now stays) c.settle-in-Asking.ensures,
+      moves_by c.args.line.now old old c.settle-in-Asking.new.self asks.0 f.followed c.settle-in-Asking.result (asks.2 c.args.line.now old) c.settle-in-Asking.ensures,
     )
 
 pub returns-in_ok-outcome-in-Looking-clause-ok : goal.returns-in_ok-outcome-in-Looking-clause-ok
 returns-in_ok-outcome-in-Looking-clause-ok g c =
     let l = c.in_ok-outcome-in-Looking in
-    rw c.in-Looking.is (
-      l.outcome,
-      record { action = Look; does = refl; acts = l.ensures.acts; counts_are = l.ensures.counts },
-      moves_by c.args.line.now (Looking c.in-Looking.later) (Looking c.looked-followed.new.later) c.settle-in-Looking.new.self l.outcome c.looked-followed.result c.settle-in-Looking.result
-          (c.looked-followed.ensures c.args.line.now) c.settle-in-Looking.ensures,
-    )
+    rw c.in-Looking.is
+    (l.outcome, record { action = Look; does = refl; acts = l.ensures.acts; counts_are = l.ensures.counts }, c.looked.ensures c.args.line.now)
 
-pub returns-in_ok-followed-in-Receiving-clause-ok : goal.returns-in_ok-followed-in-Receiving-clause-ok
-returns-in_ok-followed-in-Receiving-clause-ok g c =
-    let r = c.in_ok-followed-in-Receiving in
-    let came = r.ensures.ok in
-    rw c.in-Receiving.is (
-      came.0,
-      came.1,
-      moves_by c.args.line.now (Receiving c.in-Receiving.recv) (Receiving c.receive.new.recv) c.settle-in-Receiving.new.self came.0 r.followed c.settle-in-Receiving.result
-          (came.2 c.args.line.now) c.settle-in-Receiving.ensures,
-    )
+pub returns-in-Receiving-clause-ok : goal.returns-in-Receiving-clause-ok
+returns-in-Receiving-clause-ok g c =
+    rw c.in-Receiving.is
+    (IfOk-weaker c.receive.result _ _ (λ reply came. (came.0, came.1, came.2 c.args.line.now)) c.receive.ensures.ok)
+
+pub returns-in-Receiving-clause-err : goal.returns-in-Receiving-clause-err
+returns-in-Receiving-clause-err g c =
+    rw c.in-Receiving.is (on_err_weaker c.receive.result (λ alike. alike c.args.line.now) c.receive.ensures.err)

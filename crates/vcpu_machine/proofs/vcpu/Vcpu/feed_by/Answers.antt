@@ -53,7 +53,7 @@ returns-in_default c =
     let rest = drop (v.done + 1) v.part.lines in
     let lines = line_here v c.part.inside.lines line (ap (λ x. x.lines) (sym c.part.view_is)) c.get-line.ensures in
     rw (← c.self.view_is)
-    (record { fed = goes_on_fed v line rest c.self.invariant lines c.args.o.now c.feed.new.self c.in_default.ensures.fed c.in_default.ensures.at_phase c.in_default.ensures.nearer })
+    (record { fed = goes_on_fed v line rest c.self.invariant lines c.args.o.now c.feed.new.self c.in_default.ensures.feeds c.in_default.ensures.at_phase c.in_default.ensures.nearer })
 
 pub invariant_of-self-2 : goal.invariant_of-self-2
 invariant_of-self-2 c =
@@ -71,4 +71,4 @@ returns c =
     let rest = drop (v.done + 1) v.part.lines in
     let lines = line_here v c.part.inside.lines line (ap (λ x. x.lines) (sym c.part.view_is)) c.get-line.ensures in
     rw (← c.self.view_is)
-    (record { fed = over_fed v line rest c.self.invariant lines c.args.o.now c.in-Some.reply c.phase_at.result c.in-Some.ensures.fed refl c.phase_at.ensures })
+    (record { fed = over_fed v line rest c.self.invariant lines c.args.o.now c.in-Some.reply c.phase_at.result c.in-Some.ensures.feeds refl c.phase_at.ensures })
