@@ -1,3 +1,5 @@
 pub mod ById
 pub mod Domain
+pub mod Lends
+pub mod Place
 pub mod World

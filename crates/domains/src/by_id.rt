@@ -15,7 +15,7 @@ impl<L: KeyedRings> Domains<L> {
     fn live(&self, dom: DomId) -> Option<&L>
         ensures { option_map L.LiveDomain.live (option_copied result) ≡ live_of self.now dom }
     {
-        self.domains.get(&dom)?.life.as_ref()
+        self.domains.get(dom)?.life.as_ref()
     }
 
     /// Whether the ring stands.
@@ -106,7 +106,7 @@ impl<L: KeyedRings> Domains<L> {
     pub fn end_ring(&mut self, id: &RingId)
         ensures { self.new ≡ ring_ended self.old id.now }
     {
-        if let Some(domain) = self.domains.get_mut(&id.owner) {
+        if let Some(domain) = self.domains.get_mut(id.owner) {
             domain.end_ring(id.key());
         }
     }
@@ -115,7 +115,7 @@ impl<L: KeyedRings> Domains<L> {
     pub fn forget_notice(&mut self, id: &RingId, dom: DomId)
         ensures { self.new ≡ notice_ended self.old id.now dom }
     {
-        if let Some(domain) = self.domains.get_mut(&id.owner) {
+        if let Some(domain) = self.domains.get_mut(id.owner) {
             domain.forget_notice(id.key(), dom);
         }
     }

@@ -18,7 +18,7 @@ impl<L: LiveDomain> Domains<L> {
         ensures { IfOk result (λ closed. closed ≡ closed_domains self.now) }
     {
         let mut closed = ClosedDomains::new(alloc);
-        for (id, domain) in &self.domains {
+        for (id, domain) in self.domains.rows() {
             closed.push(domain_of(alloc, *id, domain)?)?;
         }
         Ok(closed)

@@ -11,17 +11,17 @@ ghost use Rattle.section_world.specs.Acts.{caller_on};
 ghost use Rattle.section_world.specs.Young.{IsYoung};
 
 use crate::domain::Domain;
+use crate::domain_map::DomainMap;
 use argo_base::{DomId, Errno, NoMemory};
 use argo_model::{DomainLine, Outcome};
 use live_domain::{LiveDomain, NO_ANSWER, Offer};
 use std::alloc::Global;
-use std::collections::BTreeMap;
 use std::marker::Model;
 
 /// The domains as they stand. Contracts see the abstract state.
 #[derive(Drop)]
 pub struct Domains<L: LiveDomain> {
-    pub(crate) domains: BTreeMap<DomId, Domain<L>>,
+    pub(crate) domains: DomainMap<Domain<L>>,
 }
 
 impl<L: LiveDomain> Model for Domains<L> {
@@ -29,7 +29,7 @@ impl<L: LiveDomain> Model for Domains<L> {
 
     ghost Value = { State };
 
-    ghost view = { λ w. w.domains.entries };
+    ghost view = { λ w. w.domains };
 }
 
 impl<L: LiveDomain> Domains<L> {
@@ -37,7 +37,7 @@ impl<L: LiveDomain> Domains<L> {
     pub fn new(alloc: Global, lines: &[DomainLine]) -> Result<Domains<L>, NoMemory>
         ensures { IfOk result (λ w. w ≡ state.start_state lines.now) }
     {
-        let mut domains = BTreeMap::new(alloc);
+        let mut domains = DomainMap::new(alloc);
         for line in lines {
             domains.insert(line.id, fresh(alloc, line)?)?;
         }
@@ -48,7 +48,7 @@ impl<L: LiveDomain> Domains<L> {
     pub fn is_alive(&self, dom: DomId) -> bool
         ensures { result ≡ state.is_alive self.now dom }
     {
-        match self.domains.get(&dom) {
+        match self.domains.get(dom) {
             Some(domain) => domain.life.is_some(),
             None => false,
         }
@@ -58,7 +58,7 @@ impl<L: LiveDomain> Domains<L> {
     pub fn is_on(&self, dom: DomId) -> bool
         ensures { result ≡ state.is_on self.now dom }
     {
-        match self.domains.get(&dom) {
+        match self.domains.get(dom) {
             Some(domain) => domain.on,
             None => false,
         }
@@ -68,7 +68,7 @@ impl<L: LiveDomain> Domains<L> {
     pub fn caller(&self, dom: DomId, generation: u32) -> Option<bool>
         ensures { result ≡ caller_on self.now dom generation }
     {
-        let domain = self.domains.get(&dom)?;
+        let domain = self.domains.get(dom)?;
         if domain.generation == generation as u64 && domain.life.is_some() {
             Some(domain.on)
         } else {
@@ -80,7 +80,7 @@ impl<L: LiveDomain> Domains<L> {
     pub fn signal(&mut self, dom: DomId)
         ensures { self.new ≡ state.signal self.old dom }
     {
-        let Some(domain) = self.domains.get_mut(&dom) else {
+        let Some(domain) = self.domains.get_mut(dom) else {
             return;
         };
         domain.signal();
@@ -129,7 +129,7 @@ impl<L: LiveDomain> Domains<L> {
         if !on {
             return Ok(Outcome::Refused(Errno::NoDev));
         }
-        let Some(receiver) = self.domains.get_mut(&to) else {
+        let Some(receiver) = self.domains.get_mut(to) else {
             return Ok(Outcome::Refused(Errno::ConnRefused));
         };
         let outcome = receiver.offer(to, to_port, sent)?;
@@ -157,7 +157,7 @@ impl<L: LiveDomain> Domains<L> {
         if !on {
             return Ok(Outcome::Refused(Errno::NoDev));
         }
-        let Some(owner) = self.domains.get_mut(&to) else {
+        let Some(owner) = self.domains.get_mut(to) else {
             return Ok(Outcome::Answer(NO_ANSWER));
         };
         let outcome = owner.answer(to_port, dom, need)?;
@@ -171,7 +171,7 @@ impl<L: LiveDomain> Domains<L> {
             (λ o. ends.create self.old dom ≡ record { outcome = o; state = self.new }) }
         ensures err { OnErr result (self.new ≡ self.old) }
     {
-        let Some(domain) = self.domains.get_mut(&dom) else {
+        let Some(domain) = self.domains.get_mut(dom) else {
             return Ok(Outcome::Refused(Errno::Srch));
         };
         if domain.life.is_some() {

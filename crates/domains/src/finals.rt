@@ -17,9 +17,9 @@ impl<L: LiveDomain> Domains<L> {
         requires { IsTrue (are_shown self) }
         ensures { IfOk result (λ finals. finals ≡ map final_domain self) }
     {
-        let Domains { mut domains } = self;
+        let Domains { domains } = self;
         let mut finals = FinalDomains::new(alloc);
-        while let Some((id, domain)) = domains.pop_first() {
+        for (id, domain) in domains.into_rows() {
             finals.push(domain_of(alloc, id, domain)?)?;
         }
         Ok(finals)

@@ -7,6 +7,7 @@
 mod by_id;
 mod closed_domains;
 mod domain;
+mod domain_map;
 mod domains;
 mod ends;
 mod finals;

@@ -35,7 +35,7 @@ impl<L: LiveDomain> Domains<L> {
             ≡ record { outcome = o; state = self.new }) }
         ensures err { OnErr result (self.new ≡ self.old) }
     {
-        let Some(domain) = self.domains.get_mut(&dom) else {
+        let Some(domain) = self.domains.get_mut(dom) else {
             return Ok(Outcome::Gone);
         };
         let outcome = domain.act(alloc, generation, action)?;
@@ -50,7 +50,7 @@ impl<L: LiveDomain> Domains<L> {
         ensures unseen { IfErr result (λ u. act (Vcpu dom generation) (fetch_of piece) self.now
             ≡ record { outcome = outcome_unseen u; state = self.now }) }
     {
-        let Some(domain) = self.domains.get(&dom) else {
+        let Some(domain) = self.domains.get(dom) else {
             return Err(Unseen::Gone);
         };
         domain.seen(generation, piece)
@@ -71,7 +71,7 @@ impl<L: LiveDomain> Domains<L> {
         ensures err { OnErr result (self.new ≡ self.old) }
     {
         let (dom, generation) = caller;
-        let Some(domain) = self.domains.get_mut(&dom) else {
+        let Some(domain) = self.domains.get_mut(dom) else {
             return Ok(Outcome::Gone);
         };
         let outcome = domain.put(generation, page, off, bytes)?;
@@ -93,7 +93,7 @@ impl<L: LiveDomain> Domains<L> {
             (λ c. c.signals.items ≡ swept self.old dom generation serial) }
         ensures err { OnErr result (self.new ≡ self.old) }
     {
-        let Some(domain) = self.domains.get_mut(&dom) else {
+        let Some(domain) = self.domains.get_mut(dom) else {
             return Ok(Change::quiet(alloc, Outcome::Gone));
         };
         let change = domain.sweep(alloc, generation, serial)?;
@@ -131,7 +131,7 @@ impl<L: LiveDomain> Domains<L> {
         if self.is_off(key.partner) {
             return Ok(Change::quiet(alloc, Outcome::Refused(Errno::ConnRefused)));
         }
-        let Some(domain) = self.domains.get_mut(&dom) else {
+        let Some(domain) = self.domains.get_mut(dom) else {
             return Ok(Change::quiet(alloc, Outcome::Gone));
         };
         let change = domain.register(alloc, r)?;

@@ -21,7 +21,7 @@ returns-then-is_some-clause-ok g c =
     let d = c.args.dom in
     let x = c.in-Some.domain.now in
     let there : domain_of s d ≡ Some x = ap (λ s. domain_of s d) (sym c.self.view_is) ∙ sym c.get_mut.ensures.value ∙ ap option_copied_mut c.in-Some.is in
-    let left = (c.get_mut.follows.holds x).0 ∙ ap (λ s. set_domain s d x) c.self.view_is ∙ set_domain-same s d x there in
+    let left = ap (λ s. set_domain s d x) c.self.view_is ∙ set_domain-same s d x there in
     let alive : is_some x.life ≡ true = ap (λ (x : Domain). is_some x.life) (sym c.domain.view_is) ∙ still_some g.L.LiveDomain.live c.domain.inside.life ∙ sym c.is_some.ensures ∙ c.if-is_some.true in
     exists s d x there alive ∙ ap (λ t. record { outcome = Refused Exist; state = t }) (sym left)
 
@@ -41,5 +41,5 @@ returns-in_err-begin_anew-clause-err g c =
     let x = c.in-Some.domain.now in
     let new = c.begin_anew.new.self in
     let there : domain_of s d ≡ Some x = ap (λ s. domain_of s d) (sym c.self.view_is) ∙ sym c.get_mut.ensures.value ∙ ap option_copied_mut c.in-Some.is in
-    let left = (c.get_mut.follows.holds new).0 ∙ ap (λ s. set_domain s d new) c.self.view_is in
+    let left = ap (λ s. set_domain s d new) c.self.view_is in
     in_any_case c.from_residual.result (left ∙ ap (set_domain s d) c.in_err-begin_anew.ensures.err ∙ set_domain-same s d x there)

@@ -24,7 +24,7 @@ returns-in_default-get_mut-clause-ok g c =
     ∙ ap (λ b. change_in s to (refuse_if (not b) Srch (refuse_if (not caller.domain.on) NoDev (offer_to_domain to port o (domain_of s to))))) (sym c.is_alive.ensures ∙ c.if-not-is_alive.false)
     ∙ ap (λ b. change_in s to (refuse_if (not b) NoDev (offer_to_domain to port o (domain_of s to)))) (caller.is_on ∙ c.if-not-on.false)
     ∙ ap (λ x. change_in s to (offer_to_domain to port o x)) absent
-    ∙ ap (λ t. record { outcome = Refused ConnRefused; state = t }) (sym (ap (λ m. m.entries) c.get_mut.follows.holds-at-none ∙ c.self.view_is))
+    ∙ ap (λ t. record { outcome = Refused ConnRefused; state = t }) (sym c.self.view_is)
 
 pub returns-in_err-outcome-clause-err : goal.returns-in_err-outcome-clause-err
 returns-in_err-outcome-clause-err g c =
@@ -33,7 +33,7 @@ returns-in_err-outcome-clause-err g c =
     let x = c.in-Some-get_mut.receiver.now in
     let new = c.offer.new.self in
     let there : domain_of s d ≡ Some x = ap (λ s. domain_of s d) (sym c.self.view_is) ∙ sym c.get_mut.ensures.value ∙ ap option_copied_mut c.in-Some-get_mut.is in
-    let left = (c.get_mut.follows.holds new).0 ∙ ap (λ s. set_domain s d new) c.self.view_is in
+    let left = ap (λ s. set_domain s d new) c.self.view_is in
     in_any_case c.from_residual.result (left ∙ ap (set_domain s d) c.in_err-outcome.ensures.err ∙ set_domain-same s d x there)
 
 pub returns-clause-ok : goal.returns-clause-ok
@@ -45,7 +45,7 @@ returns-clause-ok g c =
     let x = c.in-Some-get_mut.receiver.now in
     let new = c.offer.new.self in
     let there : domain_of s to ≡ Some x = ap (λ s. domain_of s to) (sym c.self.view_is) ∙ sym c.get_mut.ensures.value ∙ ap option_copied_mut c.in-Some-get_mut.is in
-    let left = (c.get_mut.follows.holds new).0 ∙ ap (λ s. set_domain s to new) c.self.view_is in
+    let left = ap (λ s. set_domain s to new) c.self.view_is in
     let caller = calls s o.sender c.args.generation c.in-Some.on (ap (λ (y : Offer). caller_on s y.sender c.args.generation) (sym c.sent.view_is) ∙ sym c.caller.ensures ∙ c.in-Some.is) in
     let ch : Change Live = offer_to_domain to port o (Some x) in
     let e = c.in_ok-outcome.ensures in

@@ -4,4 +4,4 @@ use Rattle.domains.proofs.domains.Domains.new.Given as goal
 
 -- the domains of the lines so far
 abbrev pub invariant-loop-line : goal.invariant-loop-line
-invariant-loop-line g l = l.domains.entries ≡ start_state (take l.line-index l.lines)
+invariant-loop-line g l = l.domains ≡ start_state (take l.line-index l.lines)

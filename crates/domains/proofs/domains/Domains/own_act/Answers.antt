@@ -13,7 +13,7 @@ returns-in_err-outcome-clause-err g c =
     let x = c.in-Some.domain.now in
     let new = c.act.new.self in
     let there : domain_of s d ≡ Some x = ap (λ s. domain_of s d) (sym c.self.view_is) ∙ sym c.get_mut.ensures.value ∙ ap option_copied_mut c.in-Some.is in
-    let left = (c.get_mut.follows.holds new).0 ∙ ap (λ s. set_domain s d new) c.self.view_is in
+    let left = ap (λ s. set_domain s d new) c.self.view_is in
     in_any_case c.from_residual.result (left ∙ ap (set_domain s d) c.in_err-outcome.ensures.err ∙ set_domain-same s d x there)
 
 pub returns-clause-ok : goal.returns-clause-ok
@@ -25,7 +25,7 @@ returns-clause-ok g c =
     let x = c.in-Some.domain.now in
     let new = c.act.new.self in
     let there : domain_of s d ≡ Some x = ap (λ s. domain_of s d) (sym c.self.view_is) ∙ sym c.get_mut.ensures.value ∙ ap option_copied_mut c.in-Some.is in
-    let left = (c.get_mut.follows.holds new).0 ∙ ap (λ s. set_domain s d new) c.self.view_is in
+    let left = ap (λ s. set_domain s d new) c.self.view_is in
     let ch : Change Live = own_if_live x.on (life_in generation x) a in
     let e = c.in_ok-outcome.ensures in
     own_acts s d generation x a c.requires.own there

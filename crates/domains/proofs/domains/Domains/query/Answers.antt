@@ -16,7 +16,7 @@ returns-in_err-outcome-clause-err g c =
     let x = c.in-Some-get_mut.owner.now in
     let new = c.answer.new.self in
     let there : domain_of s d ≡ Some x = ap (λ s. domain_of s d) (sym c.self.view_is) ∙ sym c.get_mut.ensures.value ∙ ap option_copied_mut c.in-Some-get_mut.is in
-    let left = (c.get_mut.follows.holds new).0 ∙ ap (λ s. set_domain s d new) c.self.view_is in
+    let left = ap (λ s. set_domain s d new) c.self.view_is in
     in_any_case c.from_residual.result (left ∙ ap (set_domain s d) c.in_err-outcome.ensures.err ∙ set_domain-same s d x there)
 
 pub returns-clause-ok : goal.returns-clause-ok
@@ -29,7 +29,7 @@ returns-clause-ok g c =
     let x = c.in-Some-get_mut.owner.now in
     let new = c.answer.new.self in
     let there : domain_of s to ≡ Some x = ap (λ s. domain_of s to) (sym c.self.view_is) ∙ sym c.get_mut.ensures.value ∙ ap option_copied_mut c.in-Some-get_mut.is in
-    let left = (c.get_mut.follows.holds new).0 ∙ ap (λ s. set_domain s to new) c.self.view_is in
+    let left = ap (λ s. set_domain s to new) c.self.view_is in
     let caller = calls s d c.args.generation c.in-Some.on (sym c.caller.ensures ∙ c.in-Some.is) in
     let ch : Change Live = query_domain d port need (Some x) in
     let e = c.in_ok-outcome.ensures in

@@ -33,7 +33,7 @@ returns-in_err-change-clause-err g c =
     let x = c.in-Some-get_mut.domain.now in
     let new = c.register.new.self in
     let there : domain_of s d ≡ Some x = ap (λ s. domain_of s d) (sym c.self.view_is) ∙ sym c.get_mut.ensures.value ∙ ap option_copied_mut c.in-Some-get_mut.is in
-    let left = (c.get_mut.follows.holds new).0 ∙ ap (λ s. set_domain s d new) c.self.view_is in
+    let left = ap (λ s. set_domain s d new) c.self.view_is in
     in_any_case c.from_residual.result (left ∙ ap (set_domain s d) c.in_err-change.ensures.err ∙ set_domain-same s d x there)
 
 pub returns-clause-ok : goal.returns-clause-ok
@@ -44,7 +44,7 @@ returns-clause-ok g c =
     let x = c.in-Some-get_mut.domain.now in
     let new = c.register.new.self in
     let there : domain_of s d ≡ Some x = ap (λ s. domain_of s d) (sym c.self.view_is) ∙ sym c.get_mut.ensures.value ∙ ap option_copied_mut c.in-Some-get_mut.is in
-    let left = (c.get_mut.follows.holds new).0 ∙ ap (λ s. set_domain s d new) c.self.view_is in
+    let left = ap (λ s. set_domain s d new) c.self.view_is in
     let caller = calls s d c.args.generation c.in-Some.on (sym c.caller.ensures ∙ c.in-Some.is) in
     let here = caller.here in
     let lives = caller.lives in
@@ -61,7 +61,7 @@ returns-clause-ok g c =
     (ap (λ y. signal_all (set_domain s d y) ch.signals) (sym e.left)
     ∙ ap (signal_all (set_domain s d new)) (sym e.signals)
     ∙ ap (λ t. signal_all t c.in_ok-change.change.signals.items) (sym left)
-    ∙ ap (signal_all (c.get_mut.follows.lender new).entries) (sym c.as_slice.ensures.value)
+    ∙ ap (signal_all (set_domain c.self.inside.domains d new)) (sym c.as_slice.ensures.value)
     ∙ sym c.signal_all.ensures)
 
 pub returns-clause-signals : goal.returns-clause-signals

@@ -14,7 +14,7 @@ returns-in_err-change-clause-err g c =
     let x = c.in-Some.domain.now in
     let new = c.sweep.new.self in
     let there : domain_of s d ≡ Some x = ap (λ s. domain_of s d) (sym c.self.view_is) ∙ sym c.get_mut.ensures.value ∙ ap option_copied_mut c.in-Some.is in
-    let left = (c.get_mut.follows.holds new).0 ∙ ap (λ s. set_domain s d new) c.self.view_is in
+    let left = ap (λ s. set_domain s d new) c.self.view_is in
     in_any_case c.from_residual.result (left ∙ ap (set_domain s d) c.in_err-change.ensures.err ∙ set_domain-same s d x there)
 
 pub returns-clause-ok : goal.returns-clause-ok
@@ -25,7 +25,7 @@ returns-clause-ok g c =
     let x = c.in-Some.domain.now in
     let new = c.sweep.new.self in
     let there : domain_of s d ≡ Some x = ap (λ s. domain_of s d) (sym c.self.view_is) ∙ sym c.get_mut.ensures.value ∙ ap option_copied_mut c.in-Some.is in
-    let left = (c.get_mut.follows.holds new).0 ∙ ap (λ s. set_domain s d new) c.self.view_is in
+    let left = ap (λ s. set_domain s d new) c.self.view_is in
     let ch : Change Live = sweep_if_live x (life_in generation x) c.args.serial in
     let e = c.in_ok-change.ensures in
     sweep_acts s d generation x c.args.serial there
@@ -35,7 +35,7 @@ returns-clause-ok g c =
     (ap (λ y. signal_all (set_domain s d y) ch.signals) (sym e.left)
     ∙ ap (signal_all (set_domain s d new)) (sym e.signals)
     ∙ ap (λ t. signal_all t c.in_ok-change.change.signals.items) (sym left)
-    ∙ ap (signal_all (c.get_mut.follows.lender new).entries) (sym c.as_slice.ensures.value)
+    ∙ ap (signal_all (set_domain c.self.inside.domains d new)) (sym c.as_slice.ensures.value)
     ∙ sym c.signal_all.ensures)
 
 pub returns-clause-signals : goal.returns-clause-signals
