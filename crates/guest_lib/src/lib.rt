@@ -1,8 +1,7 @@
 //! The guest's library: it takes one message from a ring of the guest's own, by fetches and puts of the guest's memory.
 //!
 //! The layer above uses one contract: `Recv::next` and `Recv::feed` are the library's program `receive`, action by action, and what
-//! it comes to is the whole message; `Recv::hear` takes the bytes of a fetch where they stand. It stands on argo_base, argo_abi,
-//! iov_plan and argo_model.
+//! it comes to is the whole message. It stands on argo_base, argo_abi, iov_plan and argo_model.
 #![tactic(auto)]
 
 mod body;
