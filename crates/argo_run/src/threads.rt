@@ -43,7 +43,6 @@ pub(crate) fn run_in_threads<R: Threads + Wait + Sync, S: Source, K: Sink, P: Pa
 }
 
 // Runs a script, in threads where it has at least two sections.
-#[tactic(auto, using(crate::proofs::TextLaws::picked))]
 fn run_beside<R: Threads + Wait + Sync, K: Sink, P: Pause + Send + Sync>(
     rt: &R,
     alloc: Global,
