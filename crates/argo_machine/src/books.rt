@@ -37,6 +37,7 @@ impl Books {
     }
 
     /// Takes the memory that one `note` wants.
+    #[inline(always)]
     pub(crate) fn reserve(&mut self) -> Result<(), NoMemory>
         ensures same { SameBooks self.old self.new }
         ensures room { OnOk result (HasRoom self.new) }
@@ -48,6 +49,7 @@ impl Books {
     }
 
     /// Notes a step of section `v`, its `step`-th, at a line, and the reply where it came with it.
+    #[inline(always)]
     pub(crate) fn note(&mut self, v: u32, step: u64, line: u32, reply: Option<Reply>)
         requires room { HasRoom self.old }
         requires small { length (schedule_of self.old.runs.items) < 2 ^ 63 }

@@ -107,6 +107,7 @@ impl<W: SerialWorld> Machine<W> {
     }
 
     /// As `step`, of whose outcome nothing is wanted.
+    #[inline(always)]
     pub fn go(&mut self, v: u32) -> Result<(), NoMemory>
         requires { IsTrue (is_open (run self.old.script self.old.schedule) v) }
         ensures ok { OnOk result ((o : Outcome) × OneStep self.old v o self.new) }
@@ -183,6 +184,7 @@ impl<W: SerialWorld> Kept<W> {
     ghost use Rattle.argo_machine.specs.Kept.{IsOpenIn, AdvancesBy, StaysKept};
 
     // One step of a section, of whose outcome nothing is wanted.
+    #[inline(always)]
     fn go(&mut self, v: u32) -> Result<(), NoMemory>
         requires { IsOpenIn self.old v }
         ensures ok { OnOk result ((o : Outcome) × AdvancesBy self.old v o self.new) }

@@ -29,6 +29,7 @@ impl<L: KeyedRings> Domains<L> {
     }
 
     /// Whether a domain waits on the ring.
+    #[inline(always)]
     pub fn is_noted(&self, id: &RingId, dom: DomId) -> bool
         ensures { result ≡ is_noted self.now id.now dom }
     {

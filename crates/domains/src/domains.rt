@@ -105,6 +105,7 @@ impl<L: LiveDomain> Domains<L> {
     }
 
     /// A caller sends from a port to a port of a domain. Where memory runs out all stay.
+    #[inline(always)]
     pub fn deliver(
         &mut self,
         generation: u32,

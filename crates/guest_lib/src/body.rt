@@ -15,6 +15,7 @@ impl BodyRead {
     ghost use Rattle.guest_lib.specs.Stage.{IsBody, HasBodySize, IsStage, Follows, GoAlike, IsAction, CanHearPiece, read_body, step_of, word_stage};
 
     /// The fetch of the next piece, with the memory for all of the body.
+    #[inline(always)]
     pub(crate) fn next(&mut self) -> Result<Action, NoMemory>
         requires some { 0 < length self.old.slots }
         requires size { HasBodySize self.old }
@@ -37,6 +38,7 @@ impl BodyRead {
     }
 
     /// Takes the bytes of the next piece: whether others are to come.
+    #[inline(always)]
     pub(crate) fn hear(&mut self, bytes: &[u8]) -> bool
         requires ready { IsBody true self.old }
         requires can { CanHearPiece self.old (Outcome.Bytes bytes.now) }
@@ -51,6 +53,7 @@ impl BodyRead {
     }
 
     /// The put of the rx word, with the message.
+    #[inline(always)]
     pub(crate) fn word_stage(&mut self, alloc: Global) -> Stage
         ensures { result ≡ word_stage self.old }
     {
@@ -67,6 +70,7 @@ impl BodyRead {
     }
 
     /// The stage after the bytes so far: the next piece, or the put of the rx word.
+    #[inline(always)]
     pub(crate) fn stage(mut self, alloc: Global) -> Stage
         requires { HasBodySize self }
         ensures alike { GoAlike (step_of result) (read_body self) }

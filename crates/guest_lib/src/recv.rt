@@ -57,6 +57,7 @@ impl Recv {
     }
 
     /// The next action, with all the memory that its outcome will want. After want of memory the recv is as before.
+    #[inline(always)]
     pub fn next(&mut self) -> Result<Action, NoMemory>
         requires { 0 < left_of self.old }
         ensures does { IfOk result (λ a. IsNext self.old a) }
@@ -85,6 +86,7 @@ impl Recv {
     }
 
     /// As `feed`, of the bytes that a fetch showed.
+    #[inline(always)]
     pub fn hear(&mut self, seen: Result<&[u8], Unseen>) -> Option<Received>
         requires ready { IsTrue self.old.ready }
         requires can { IfOk seen (λ bytes. CanFeed self.old (Bytes bytes.now)) }
@@ -108,6 +110,7 @@ impl Recv {
     }
 
     /// As `feed`, of an outcome that the caller keeps.
+    #[inline(always)]
     pub fn feed_by(&mut self, outcome: &Outcome) -> Option<Received>
         requires ready { IsTrue self.old.ready }
         requires can { CanFeed self.old outcome.now }

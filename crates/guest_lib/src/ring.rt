@@ -19,6 +19,7 @@ use std::alloc::Global;
 
 impl OwnRing {
     /// The fetch of `n` bytes of one page, `off` bytes from where the ring begins.
+    #[inline(always)]
     pub(crate) fn fetch(self, off: u32, n: u32) -> Action
         requires inside { off % 4096 + n ≤ 4096 }
         ensures is { result ≡ Action.Fetch (self.page + off / 4096) (off % 4096) n }
@@ -32,6 +33,7 @@ impl OwnRing {
     }
 
     /// Where the library goes with the bytes of the rx word's fetch.
+    #[inline(always)]
     pub(crate) fn rx_heard(self, bytes: &[u8]) -> Onward
         requires { length bytes.now ≡ 4 }
         ensures { Follows self ReadRx (Outcome.Bytes bytes.now) result }
@@ -40,6 +42,7 @@ impl OwnRing {
     }
 
     /// Where it goes with those of the tx word's, after the rx word.
+    #[inline(always)]
     pub(crate) fn tx_heard(self, rx: u32, bytes: &[u8]) -> Onward
         requires { length bytes.now ≡ 4 }
         ensures { Follows self (ReadTx rx) (Outcome.Bytes bytes.now) result }
@@ -55,6 +58,7 @@ impl OwnRing {
     }
 
     /// Where it goes with those of the fetch of the header at rx.
+    #[inline(always)]
     pub(crate) fn head_heard(self, alloc: Global, rx: u32, tx: u32, bytes: &[u8]) -> Onward
         requires ring { IsTrue (is_legal self.len) }
         requires rx { IsTrue (place_fits self.len rx) }

@@ -19,6 +19,7 @@ impl Stage {
     ghost use Rattle.guest_lib.specs.Stage.{IsStage, StaysReady, IsAction, CanHear, Follows, Hears, step_of};
 
     /// The next action, with the memory that its outcome will want.
+    #[inline(always)]
     pub(crate) fn next(&mut self, alloc: Global, ring: OwnRing) -> Result<Action, NoMemory>
         requires some { 0 < step_left (step_of self.old) }
         requires ready { IsStage ring.len false self.old }
@@ -44,6 +45,7 @@ impl Stage {
     }
 
     /// Goes on with the bytes of a fetch, or answers what the recv came to.
+    #[inline(always)]
     pub(crate) fn hear(&mut self, alloc: Global, ring: OwnRing, bytes: &[u8]) -> Option<Received>
         requires ready { IsStage ring.len true self.old }
         requires ring { IsTrue (is_legal ring.len) }
@@ -72,6 +74,7 @@ impl Stage {
     }
 
     // Goes on to the next stage, or answers what the recv came to.
+    #[inline(always)]
     fn goes(&mut self, onward: Onward) -> Option<Received>
         ensures { (ring : AnyRing) (step : Step) (bytes : List ℕ) →
             Follows ring step (Outcome.Bytes bytes) onward → Hears ring step bytes result self.new }

@@ -14,6 +14,7 @@ use std::alloc::Global;
 use std::mem;
 
 /// Performs an action of a section. Where memory runs out the state stays.
+#[inline(always)]
 pub fn act<D: DomainActs>(
     domains: &mut D,
     alloc: Global,
@@ -33,6 +34,7 @@ pub fn act<D: DomainActs>(
 }
 
 // Performs an action of a virtual CPU, of a domain and a generation.
+#[inline(always)]
 fn vcpu_act<D: DomainActs>(
     domains: &mut D,
     alloc: Global,
@@ -94,6 +96,7 @@ fn vcpu_act<D: DomainActs>(
 }
 
 /// A caller, of a domain and a generation, delivers a load, which is taken. Where memory runs out all stay, the load too.
+#[inline(always)]
 pub(crate) fn deliver<D: DomainActs>(
     domains: &mut D,
     alloc: Global,

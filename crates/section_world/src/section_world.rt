@@ -51,6 +51,7 @@ impl<D: DomainActs> Access for SectionWorld<D> {
 
     ghost totals = { λ w. w.totals };
 
+    #[inline(always)]
     fn act(&mut self, v: u32, a: Action) -> Result<Outcome, NoMemory> {
         let place = v as usize;
         let outcome = act(&mut self.domains, self.alloc, self.actors[place], a)?;
@@ -58,6 +59,7 @@ impl<D: DomainActs> Access for SectionWorld<D> {
         Ok(outcome)
     }
 
+    #[inline(always)]
     fn seen(&self, v: u32, piece: Piece) -> Result<&[u8], Unseen> {
         match self.actors[v as usize] {
             Actor::Vcpu(dom, generation) => self.domains.seen(dom, generation, piece),
@@ -65,10 +67,12 @@ impl<D: DomainActs> Access for SectionWorld<D> {
         }
     }
 
+    #[inline(always)]
     fn count(&mut self, v: u32) {
         count(&mut self.totals[v as usize], &Outcome::Done);
     }
 
+    #[inline(always)]
     fn put(&mut self, v: u32, page: u64, off: u32, bytes: &[u8]) -> Result<Outcome, NoMemory> {
         let place = v as usize;
         let Actor::Vcpu(dom, generation) = self.actors[place] else {
@@ -79,6 +83,7 @@ impl<D: DomainActs> Access for SectionWorld<D> {
         Ok(outcome)
     }
 
+    #[inline(always)]
     fn deliver(&mut self, v: u32, at: Address, load: &mut Load) -> Result<Outcome, NoMemory> {
         let place = v as usize;
         let Actor::Vcpu(dom, generation) = self.actors[place] else {
@@ -123,6 +128,7 @@ impl<D: DomainActs> SerialWorld for SectionWorld<D> {
 }
 
 // Counts a step with this outcome.
+#[inline(always)]
 fn count(totals: &mut Totals, outcome: &Outcome)
     requires small { IsSmall totals.old }
     requires few { totals.old.steps < 2 ^ 32 }

@@ -31,6 +31,7 @@ pub(crate) struct Call {
 
 impl Call {
     /// The phase at which the call of this command begins.
+    #[inline(always)]
     pub(crate) fn start(&self, alloc: Global, command: u64) -> Phase
         ensures { Leads (op_of self.now command) 8700 (Followed.To result) }
     {
@@ -43,6 +44,7 @@ impl Call {
         }
     }
 
+    #[inline(always)]
     fn register_ring(&self, alloc: Global) -> Phase
         ensures { Leads (register_of self.now) 13 (Followed.To result) }
     {
@@ -57,6 +59,7 @@ impl Call {
         reading(alloc, Cursor::over(self.a1, 12), Reader::Register(read))
     }
 
+    #[inline(always)]
     fn unregister_ring(&self, alloc: Global) -> Phase
         ensures { Leads (unregister_of self.now) 3 (Followed.To result) }
     {
@@ -67,6 +70,7 @@ impl Call {
         reading(alloc, Cursor::over(self.a1, 8), Reader::Register(read))
     }
 
+    #[inline(always)]
     fn sendv(&self, alloc: Global) -> Phase
         ensures { Leads (send_of self.now) 4117 (Followed.To result) }
     {
@@ -82,6 +86,7 @@ impl Call {
         reading(alloc, Cursor::over(self.a1, 16), Reader::Send(read))
     }
 
+    #[inline(always)]
     fn notify(&self) -> Phase
         ensures { Leads (notify_of self.now) 1410 (Followed.To result) }
     {

@@ -31,6 +31,7 @@ pub(crate) fn fetch_first(rest: Cursor) -> Action
 }
 
 /// Where a line goes that fetches, once an outcome has moved it past its last piece.
+#[inline(always)]
 pub(crate) fn read_on(
     alloc: Global,
     got: &mut Vec<u8>,

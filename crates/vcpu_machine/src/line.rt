@@ -25,6 +25,7 @@ impl Phase {
     ghost use Rattle.vcpu_machine.specs.Going.{MayGo, Goes, Moves, Settles};
 
     /// The phase at which a line of an actor begins.
+    #[inline(always)]
     pub(crate) fn start(alloc: Global, actor: Actor, line: &Line) -> Phase
         requires { IsTrue (is_line_for actor line.now) }
         ensures at_phase { IsAtPhase line.now result }
@@ -79,6 +80,7 @@ impl Phase {
     }
 
     /// Performs the next action as section `v` of a world, and answers the reply where the line then has it.
+    #[inline(always)]
     pub(crate) fn go<A: Access>(
         &mut self,
         alloc: Global,
@@ -132,6 +134,7 @@ impl Phase {
     }
 
     // Goes to the next phase, or answers the reply.
+    #[inline(always)]
     fn settle(&mut self, followed: Followed) -> Option<Reply>
         ensures { Settles followed result self.new }
     {

@@ -25,6 +25,7 @@ impl Question {
     ghost use Rattle.vcpu_machine.specs.Phase.{takes_none};
 
     /// The action, with copies of what it takes.
+    #[inline(always)]
     pub(crate) fn action(&self, alloc: Global) -> Result<Action, NoMemory>
         requires { IsQuestion self.now }
         ensures is { IfOk result (λ a. a ≡ action_of self.now) }
@@ -63,6 +64,7 @@ impl Question {
     }
 
     /// Where a line goes that asks, with an outcome.
+    #[inline(always)]
     pub(crate) fn asked(&self, alloc: Global, outcome: &Outcome) -> Followed
         requires { IsQuestion self.now }
         ensures { AskFollows self.now outcome.now result }
@@ -74,6 +76,7 @@ impl Question {
     }
 
     /// Asks in a world: where the line then goes.
+    #[inline(always)]
     pub(crate) fn go<A: Access>(
         &mut self,
         alloc: Global,
@@ -100,6 +103,7 @@ impl Question {
     }
 
     // Where the line goes with an outcome other than `Gone`.
+    #[inline(always)]
     fn answered(&self, alloc: Global, outcome: &Outcome) -> Followed
         requires { IsQuestion self.now }
         ensures { Leads (answered_by self.now outcome.now) (most_after_answer self.now) result }
@@ -139,6 +143,7 @@ fn done(outcome: &Outcome) -> Followed
 }
 
 // After a delivery, of any load.
+#[inline(always)]
 fn sent(outcome: &Outcome) -> Followed
     ensures { Sends outcome.now result }
 {
@@ -149,6 +154,7 @@ fn sent(outcome: &Outcome) -> Followed
 }
 
 // After one with an outcome other than `Gone`.
+#[inline(always)]
 fn delivered(outcome: &Outcome) -> Followed
     ensures { Leads (say_accepted outcome.now) 0 result }
 {
@@ -160,6 +166,7 @@ fn delivered(outcome: &Outcome) -> Followed
 }
 
 // After a sweep, with so many to come.
+#[inline(always)]
 fn swept(alloc: Global, outcome: &Outcome, base: u64, later: u32) -> Followed
     ensures { Leads (swept_on base later outcome.now) (later + most_of_notify) result }
 {

@@ -16,6 +16,7 @@ use guest_lib::{Received, Recv};
 const SHOWN_BYTES: usize = 64;
 
 /// The reply with an outcome of the library's next action; none while the library goes on.
+#[inline(always)]
 pub(crate) fn received(recv: &mut Recv, outcome: &Outcome) -> Option<Reply>
     requires under_way { IsUnderWay recv.old }
     requires ready { IsTrue recv.old.ready }
@@ -29,6 +30,7 @@ pub(crate) fn received(recv: &mut Recv, outcome: &Outcome) -> Option<Reply>
 }
 
 /// Performs the library's next action as section `v` of a world, and answers the reply where the line then has it.
+#[inline(always)]
 pub(crate) fn receive<A: Access>(
     recv: &mut Recv,
     v: u32,
@@ -60,6 +62,7 @@ pub(crate) fn receive<A: Access>(
 }
 
 // As `received`, with the bytes of a fetch where they stand, or why there are none.
+#[inline(always)]
 fn heard(recv: &mut Recv, seen: Result<&[u8], Unseen>) -> Option<Reply>
     requires under_way { IsUnderWay recv.old }
     requires ready { IsTrue recv.old.ready }
@@ -77,6 +80,7 @@ fn heard(recv: &mut Recv, seen: Result<&[u8], Unseen>) -> Option<Reply>
 }
 
 // The reply that shows what the library came to: of a body its size and its first bytes.
+#[inline(always)]
 fn reply_of(found: Received) -> Reply
     requires { IsShort found }
     ensures { Say result ≡ ended say_found found }

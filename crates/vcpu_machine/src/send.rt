@@ -43,6 +43,7 @@ impl SendRead {
     }
 
     /// Where the call goes with the bytes.
+    #[inline(always)]
     pub(crate) fn used(self, alloc: Global, got: Vec<u8>) -> Followed
         requires ready { IsSendRead self }
         requires size { length got.items ≡ send_size self }
@@ -71,6 +72,7 @@ impl Gather {
     ghost use Rattle.vcpu_machine.specs.Sending.{IsGather, IsFirstBuffer, gather_on, gather_left};
 
     // Where the gather goes with what it got so far.
+    #[inline(always)]
     fn go_on(self, got: Vec<u8>) -> Followed
         requires ready { IsGather self }
         requires size { length got.items + self.later ≡ self.size }
@@ -84,6 +86,7 @@ impl Gather {
     }
 
     // The buffer at a place is fetched, which is the first of those left that has bytes.
+    #[inline(always)]
     fn buffer(self, place: u32, iov: Iov, got: Vec<u8>) -> Followed
         requires ready { IsGather self }
         requires first { IsFirstBuffer (iovs_at self.list.items self.count) self.next place iov }
@@ -105,6 +108,7 @@ impl Gather {
 }
 
 // The message is delivered.
+#[inline(always)]
 fn deliver(address: Address, load: Load) -> Followed
     requires { IsTrue (is_fit_load load) }
     ensures { Leads (deliver_to address load) 1 result }
@@ -113,6 +117,7 @@ fn deliver(address: Address, load: Load) -> Followed
 }
 
 // After the addresses.
+#[inline(always)]
 fn head(alloc: Global, got: Vec<u8>, args: SendArgs) -> Followed
     requires size { length got.items ≡ 16 }
     requires few { args.count ≤ 8 }
@@ -158,6 +163,7 @@ fn has_own_source(caller: DomId, addr: &SendAddr) -> bool
 }
 
 // After the buffers.
+#[inline(always)]
 fn judged(alloc: Global, list: Vec<u8>, count: u32, address: Address) -> Followed
     requires size { length list.items ≡ 16 * count }
     requires few { count ≤ 8 }
@@ -210,6 +216,7 @@ fn read_iov(list: &[u8], place: usize) -> Iov
 }
 
 // The first of so many buffers of a list that has bytes, from a place on, with its place.
+#[inline(always)]
 fn next_buffer(list: &[u8], from: u32, count: u32) -> Option<(u32, Iov)>
     requires size { length list.now ≡ 16 * count }
     requires within { from ≤ count }

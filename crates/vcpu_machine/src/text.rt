@@ -45,6 +45,7 @@ impl Text {
     }
 
     /// Performs the put of the first piece of what is left of a range, as section `v` of a world.
+    #[inline(always)]
     pub(crate) fn put_in<A: Access>(
         &self,
         line: &Line,
@@ -70,6 +71,7 @@ impl Text {
     }
 
     /// Where a line goes that puts, once an outcome has moved it past its last piece.
+    #[inline(always)]
     pub(crate) fn put_on(&self, alloc: Global, moved: Moved) -> Followed
         requires over { IsOver moved }
         requires text { IsText self.now }
@@ -134,6 +136,7 @@ fn put_last(alloc: Global, rest: Cursor, bytes: &[u8]) -> Result<Action, NoMemor
 }
 
 // Puts the first piece of what is left of a range, which takes the last of the bytes.
+#[inline(always)]
 fn put_part<A: Access>(rest: Cursor, bytes: &[u8], v: u32, a: &mut A) -> Result<Outcome, NoMemory>
     requires some { 0 < rest.left }
     requires sound { IsSound rest }

@@ -155,6 +155,7 @@ impl Vcpu {
     }
 
     /// As `turn`, of whose outcome nothing is wanted but the reply.
+    #[inline(always)]
     pub fn go<A: Access>(&mut self, v: u32, a: &mut A) -> Result<Option<Reply>, NoMemory>
         requires unfinished { self.old.done < length self.old.part.lines }
         requires section { slice_get (A.actors a.old) v ≡ Some self.old.part.actor }
@@ -207,6 +208,7 @@ fn is_past(part: &Part, done: u32) -> bool
 }
 
 // The phase at which a line of a section begins, or the end.
+#[inline(always)]
 fn phase_at(alloc: Global, part: &Part, done: u32) -> Phase
     ensures { Begins part.now.actor (drop done part.now.lines) result }
 {
