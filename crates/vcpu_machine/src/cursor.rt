@@ -17,7 +17,6 @@ impl Cursor {
     ghost use Rattle.vcpu_machine.specs.Cursor.{pieces_left, IsSound};
 
     /// The range of `n` bytes from an address.
-    #[inline(always)]
     pub(crate) fn over(at: u64, n: u32) -> Cursor
         ensures pieces { pieces_left result ≡ pieces at n }
         ensures left { result.left ≡ n }
@@ -31,7 +30,6 @@ impl Cursor {
     }
 
     /// The range of `n` bytes that begins so many bytes past an address.
-    #[inline(always)]
     pub(crate) fn beyond(at: u64, by: u32, n: u32) -> Cursor
         requires { by < 2 ^ 31 }
         ensures pieces { pieces_left result ≡ pieces (at + by) n }
@@ -47,7 +45,6 @@ impl Cursor {
     }
 
     /// The first piece, and what is left after it.
-    #[inline(always)]
     pub(crate) fn split_first(self) -> (Piece, Cursor)
         requires some { 0 < self.left }
         requires sound { IsSound self }

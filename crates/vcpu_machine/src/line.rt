@@ -80,7 +80,6 @@ impl Phase {
     }
 
     /// Performs the next action as section `v` of a world, and answers the reply where the line then has it.
-    #[inline(always)]
     pub(crate) fn go<A: Access>(
         &mut self,
         alloc: Global,

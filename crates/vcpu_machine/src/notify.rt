@@ -30,7 +30,6 @@ impl Entry {
     }
 
     // Asks for room as the entry says.
-    #[inline(always)]
     fn ask(self, entry: &[u8]) -> Followed
         requires ready { IsEntry self }
         requires size { length entry.now ≡ 20 }
@@ -49,7 +48,6 @@ impl Entry {
     }
 
     /// Where the call goes when it was asked for room.
-    #[inline(always)]
     pub(crate) fn answered(self, alloc: Global, outcome: &Outcome) -> Followed
         requires { IsEntry self }
         ensures { Leads (entry_answered self outcome.now) (5 * self.later + 2) result }
@@ -72,7 +70,6 @@ impl NotifyRead {
     ghost use Rattle.vcpu_machine.specs.Notifying.{after_notify_read, notify_size, IsNotifyRead, most_after_notify};
 
     /// Where the call goes with the bytes.
-    #[inline(always)]
     pub(crate) fn used(self, alloc: Global, got: &[u8]) -> Followed
         requires ready { IsNotifyRead self }
         requires size { length got.now ≡ notify_size self }
@@ -86,7 +83,6 @@ impl NotifyRead {
 }
 
 /// Where a notify goes that has so many sweeps to come, of the rings after a serial.
-#[inline(always)]
 pub(crate) fn sweep(alloc: Global, base: u64, after: u64, count: u32) -> Followed
     ensures { Leads (sweeps base count after) (count + most_of_notify) result }
 {
@@ -101,7 +97,6 @@ pub(crate) fn sweep(alloc: Global, base: u64, after: u64, count: u32) -> Followe
 }
 
 /// Where a notify goes when no ring is left to be swept.
-#[inline(always)]
 pub(crate) fn begin(alloc: Global, base: u64) -> Followed
     ensures { Leads (notify_entries base) most_of_notify result }
 {
@@ -113,7 +108,6 @@ pub(crate) fn begin(alloc: Global, base: u64) -> Followed
 }
 
 // After the 8 bytes that count the entries.
-#[inline(always)]
 fn head(alloc: Global, base: u64, bytes: &[u8]) -> Followed
     requires { length bytes.now ≡ 8 }
     ensures { Leads (notify_head base bytes.now) 1280 result }
@@ -129,7 +123,6 @@ fn head(alloc: Global, base: u64, bytes: &[u8]) -> Followed
 }
 
 // So many entries from a place on.
-#[inline(always)]
 fn entries(alloc: Global, base: u64, place: u32, count: u32) -> Followed
     requires { place + count < 257 }
     ensures { Leads (answer_entries (places_from base place count)) (5 * count) result }

@@ -76,7 +76,6 @@ impl Question {
     }
 
     /// Asks in a world: where the line then goes.
-    #[inline(always)]
     pub(crate) fn go<A: Access>(
         &mut self,
         alloc: Global,
@@ -143,7 +142,6 @@ fn done(outcome: &Outcome) -> Followed
 }
 
 // After a delivery, of any load.
-#[inline(always)]
 fn sent(outcome: &Outcome) -> Followed
     ensures { Sends outcome.now result }
 {
@@ -154,7 +152,6 @@ fn sent(outcome: &Outcome) -> Followed
 }
 
 // After one with an outcome other than `Gone`.
-#[inline(always)]
 fn delivered(outcome: &Outcome) -> Followed
     ensures { Leads (say_accepted outcome.now) 0 result }
 {
@@ -166,7 +163,6 @@ fn delivered(outcome: &Outcome) -> Followed
 }
 
 // After a sweep, with so many to come.
-#[inline(always)]
 fn swept(alloc: Global, outcome: &Outcome, base: u64, later: u32) -> Followed
     ensures { Leads (swept_on base later outcome.now) (later + most_of_notify) result }
 {

@@ -23,7 +23,6 @@ pub(crate) enum Moved {
 }
 
 /// Moves a range that is put on by an outcome of its first piece.
-#[inline(always)]
 pub(crate) fn put_moved(rest: &mut Cursor, outcome: &Outcome) -> Moved
     requires some { 0 < rest.old.left }
     requires sound { IsSound rest.old }
@@ -58,7 +57,6 @@ pub(crate) fn fetch_moved(rest: &mut Cursor, got: &mut Vec<u8>, outcome: &Outcom
 }
 
 /// As `fetch_moved`, with the bytes of the first piece where they stand, or why there are none.
-#[inline(always)]
 pub(crate) fn seen_moved(rest: &mut Cursor, got: &mut Vec<u8>, seen: Result<&[u8], Unseen>) -> Moved
     requires some { 0 < rest.old.left }
     requires sound { IsSound rest.old }
@@ -84,7 +82,6 @@ pub(crate) fn seen_moved(rest: &mut Cursor, got: &mut Vec<u8>, seen: Result<&[u8
 }
 
 // Leaves the first piece behind.
-#[inline(always)]
 fn advance(rest: &mut Cursor) -> Moved
     requires some { 0 < rest.old.left }
     requires sound { IsSound rest.old }

@@ -13,7 +13,6 @@ impl Reader {
     ghost use Rattle.vcpu_machine.specs.Followed.{Leads};
 
     /// The room that a range takes of which so many bytes are left, with the ranges that follow it.
-    #[inline(always)]
     pub(crate) fn room(&self, left: u32) -> usize
         ensures { min left 4096 ≤ result }
     {
@@ -39,7 +38,6 @@ impl Reader {
     }
 
     /// Where the line goes when a page is not there.
-    #[inline(always)]
     pub(crate) fn failed(self) -> Followed
         requires ready { IsReader self }
         ensures { Leads (after_fault self) (most_after self) result }

@@ -37,7 +37,6 @@ impl RegisterRead {
     ghost use Rattle.vcpu_machine.specs.Followed.{Leads};
 
     /// Where the call goes with the bytes.
-    #[inline(always)]
     pub(crate) fn used(self, alloc: Global, got: Vec<u8>) -> Followed
         requires ready { IsRegisterRead self }
         requires size { length got.items ≡ register_size self }
@@ -56,7 +55,6 @@ impl RegisterRead {
 }
 
 // After the structure of unregister_ring.
-#[inline(always)]
 fn unregister(bytes: &[u8]) -> Followed
     requires { length bytes.now ≡ 8 }
     ensures { Leads (unregister_head bytes.now) 1 result }
@@ -72,7 +70,6 @@ fn unregister(bytes: &[u8]) -> Followed
 }
 
 // After the structure of register_ring.
-#[inline(always)]
 fn register(alloc: Global, list: u64, count: u64, flags: u64, bytes: &[u8]) -> Followed
     requires { length bytes.now ≡ 12 }
     ensures { Leads (register_head list count flags bytes.now) 11 result }

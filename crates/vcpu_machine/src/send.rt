@@ -108,7 +108,6 @@ impl Gather {
 }
 
 // The message is delivered.
-#[inline(always)]
 fn deliver(address: Address, load: Load) -> Followed
     requires { IsTrue (is_fit_load load) }
     ensures { Leads (deliver_to address load) 1 result }

@@ -45,7 +45,6 @@ impl Text {
     }
 
     /// Performs the put of the first piece of what is left of a range, as section `v` of a world.
-    #[inline(always)]
     pub(crate) fn put_in<A: Access>(
         &self,
         line: &Line,
@@ -71,7 +70,6 @@ impl Text {
     }
 
     /// Where a line goes that puts, once an outcome has moved it past its last piece.
-    #[inline(always)]
     pub(crate) fn put_on(&self, alloc: Global, moved: Moved) -> Followed
         requires over { IsOver moved }
         requires text { IsText self.now }
