@@ -7,7 +7,10 @@ use Rattle.argo_base.specs.Match.{id_cmp, is_wildcard}
 use Rattle.argo_base.specs.Notices.{Notices, doms_of}
 use Rattle.argo_base.specs.declared.no_memory.NoMemory.{NoMemory}
 use Rattle.argo_base.specs.declared.ring_key.RingId.{RingId}
+use Rattle.argo_model.specs.declared.action.Action.TheVariants.{Sweep}
 use Rattle.argo_model.specs.declared.action.Outcome.{Outcome}
+use Rattle.argo_model.specs.declared.scripts.Actor.TheVariants.{Vcpu}
+use Rattle.argo_model.specs.Rules.Act.{act}
 use Rattle.argo_model.specs.Rules.Effects.{Effect}
 use Rattle.argo_model.specs.Rules.Register.{has_number}
 use Rattle.argo_model.specs.Rules.State.{State, Ring}
@@ -18,10 +21,13 @@ use Rattle.touch_laws.specs.Touches.{Same, Notes}
 use Rattle.touch_laws.proofs.LeftLaws.{ended_other, ended_here, noted_stands, noted_apart, noted_here, valid_notice}
 use Rattle.plain_world.proofs.LevelLaws.{sends_kept, waits_kept, sends_mended, waits_mended, waits_apart, kept_apart, kept_here, off_apart, off_here, off_single}
 use Rattle.touch_laws.proofs.NoticeLaws.{not_waiting}
+use Rattle.touch_laws.proofs.TouchLaws.{sweep_touches, sweep_next, sweep_stands}
+use Rattle.state_laws.proofs.Courses.{valid_fit}
 use Rattle.state_laws.specs.Valid.{IsValid}
 use Rattle.domain_lists.proofs.IdLaws.{id_same, id_self}
 use Rattle.live_domain.specs.Keyed.{has_notice, noted_on}
-use Rattle.domains.specs.ById.{ring_ended, notice_ended, ring_at, stands, is_noted}
+use Rattle.domains.specs.ById.{id_in, next_key, ring_ended, notice_ended, ring_at, stands, is_noted}
+use Rattle.domains.specs.World.{swept}
 
 -- what holds before and after an act holds whether memory runs out or not
 pub either : (P : State → Type 0) (r : Result Outcome NoMemory) (e : Effect) (s t : State) → IfOk r (λ o. e ≡ record { outcome = o; state = t }) → OnErr r (t ≡ s) → P s → P e.state → P t
@@ -94,6 +100,31 @@ module _ (w : Levels) (t : State) (id : RingId) (doms : List ℕ) (touches : Tou
       (λ d x none. kept_apart w.sends mid new id.partner id keep added kept d x none)
       (kept_here w.sends mid new id.partner id keep added kept ∙ keep_is)
       touches.stands
+
+-- ---- a domain swept a ring
+
+-- it is found after the sweep by its key, which it kept, and goes off the lists of those that were signalled
+pub level_swept : (w : Levels) (d g serial : ℕ) (doms : List ℕ) (id : RingId) (new : RingLists) → doms ≡ swept w.state d g serial
+    → id ≡ id_in d (next_key (act (Vcpu d g) (Sweep serial) w.state).state d serial)
+    → ((q : ℕ) (x : RingId) → names new q x ≡ (names w.waits q x && not (has_number doms q && is_at (id_cmp id) x)))
+    → AreLevel w → AreLevel (record { state = (act (Vcpu d g) (Sweep serial) w.state).state; sends = w.sends; waits = new })
+level_swept w d g serial doms id new signalled found off level =
+    let t = (act (Vcpu d g) (Sweep serial) w.state).state in
+    let same : id ≡ id_in d (next_key w.state d serial) = found ∙ ap (id_in d) (sweep_next w.state d g serial level.valid) in
+    let touches : Touches w.state t id doms =
+    subst (λ y. Touches w.state t y doms) (sym same)
+    (subst (λ ds. Touches w.state t (id_in d (next_key w.state d serial)) ds) (sym signalled) (sweep_touches w.state d g serial level.valid)) in
+    record {
+      valid = valid_fit (Vcpu d g) (Sweep serial) w.state refl level.valid;
+      sends = sends_kept w.state t w.sends (sweep_stands w.state d g serial) level.sends;
+      waits = waits_off w t id doms touches level new off;
+    }
+
+-- where none was, the lists stay
+pub level_unsignalled : (w : Levels) (d g serial : ℕ) → [] ≡ swept w.state d g serial → AreLevel w
+    → AreLevel (record { state = (act (Vcpu d g) (Sweep serial) w.state).state; sends = w.sends; waits = w.waits })
+level_unsignalled w d g serial none level =
+    level_swept w d g serial [] (id_in d (next_key (act (Vcpu d g) (Sweep serial) w.state).state d serial)) w.waits none refl (λ q x. sym (and-true (names w.waits q x))) level
 
 -- ---- a ring ended
 

@@ -118,9 +118,13 @@ impl<L: KeyedRings> DomainActs for ListedDomains<L> {
         generation: u32,
         after: u64,
     ) -> Result<Outcome, NoMemory> {
-        let id = self.domains.next_ring(dom, after);
         let change = self.domains.sweep(alloc, dom, generation, after)?;
-        take_off(&mut self.waits, change.signals.as_slice(), &id);
+        let doms = change.signals.as_slice();
+        if !doms.is_empty() {
+            // A sweep leaves every ring its key and its serial, so the next ring after the serial is still the one that was swept.
+            let id = self.domains.next_ring(dom, after);
+            take_off(&mut self.waits, doms, &id);
+        }
         Ok(change.outcome)
     }
 

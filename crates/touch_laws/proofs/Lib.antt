@@ -1,6 +1,7 @@
 pub mod ActLaws
 pub mod EndLaws
 pub mod LeftLaws
+pub mod NextLaws
 pub mod NoticeLaws
 pub mod NumberLaws
 pub mod RingLaws

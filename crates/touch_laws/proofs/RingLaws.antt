@@ -12,12 +12,12 @@ use Rattle.argo_base.specs.declared.ring_key.RingId.{RingId}
 use Rattle.argo_base.specs.declared.ring_key.RingKey.{RingKey}
 use Rattle.argo_model.specs.Rules.Effects.{Change, change_in, set_left, with_life, after}
 use Rattle.argo_model.specs.Rules.Register.{own_ring, has_number}
-use Rattle.argo_model.specs.Rules.State.{State, Domain, Live, domain_of, set_domain, live_of, change_found, change_domain, flagged, signalled, signal, signal_all}
+use Rattle.argo_model.specs.Rules.State.{State, Domain, Live, domain_of, set_domain, live_of, change_found, flagged, signalled, signal, signal_all}
 use Rattle.domain_lists.proofs.IdLaws.{id_same}
 use Rattle.touch_laws.specs.Touches.{is_touched, Touches}
 use Rattle.state_laws.proofs.Domains.{get_set_other, get_set_same}
 use Rattle.live_domain.specs.Keyed.{has_notice}
-use Rattle.domains.specs.ById.{id_in, ring_in, ring_at, stands, is_noted}
+use Rattle.domains.specs.ById.{id_in, ring_in, ring_at, rings_in, rings_of, stands, is_noted}
 
 -- ---- what domains have
 
@@ -30,52 +30,67 @@ live_here s d x y here = ap (option_and_then (λ (x : Domain). x.life)) (get_set
 pub live_found : (s : State) (d : ℕ) (x : Domain) → domain_of s d ≡ Some x → live_of s d ≡ x.life
 live_found s d x here = ap (option_and_then (λ (x : Domain). x.life)) here
 
+-- what is seen of what a domain has
+module _ {A : Type 0} (f : Option Live → A) where
+  -- after a domain was replaced
+  pub seen_set : (s : State) (d : ℕ) (x y : Domain) (q : ℕ) → domain_of s d ≡ Some y → f (live_of (set_domain s d x) q) ≡ cond (d == q) (f x.life) (f (live_of s q))
+  seen_set s d x y q here = by (d == q) refl where
+    by : (b : Bool) → (d == q) ≡ b → f (live_of (set_domain s d x) q) ≡ cond b (f x.life) (f (live_of s q))
+    by true is = ap (λ q. f (live_of (set_domain s d x) q)) (sym (eq_same d q is)) ∙ ap f (live_here s d x y here)
+    by false is = ap f (live_other s d q x (eq_apart d q is))
+
+  -- where flags are not seen
+  module _ (flags : (live : Live) → f (Some (flagged live)) ≡ f (Some live)) where
+    seen_signal : (s : State) (d q : ℕ) → f (live_of (signal s d) q) ≡ f (live_of s q)
+    seen_signal s d q = by (domain_of s d) refl where
+      flag : (l : Option Live) → f (option_map flagged l) ≡ f l
+      flag None = refl
+      flag (Some live) = flags live
+
+      by : (o : Option Domain) → domain_of s d ≡ o → f (live_of (change_found s d signalled o) q) ≡ f (live_of s q)
+      by None here = refl
+      by (Some x) here = seen_set s d (signalled x) x q here ∙ at (d == q) refl where
+        at : (b : Bool) → (d == q) ≡ b → cond b (f (option_map flagged x.life)) (f (live_of s q)) ≡ f (live_of s q)
+        at true is = flag x.life ∙ ap f (sym (live_found s d x here)) ∙ ap (λ q. f (live_of s q)) (eq_same d q is)
+        at false is = refl
+
+    pub seen_signals : (ds : List ℕ) (s : State) (q : ℕ) → f (live_of (signal_all s ds) q) ≡ f (live_of s q)
+    seen_signals [] s q = refl
+    seen_signals (d ∷ ds) s q = seen_signals ds (signal s d) q ∙ seen_signal s d q
+
+    -- after a change of what a domain has
+    pub seen_in_change : (s : State) (d : ℕ) (x : Domain) (live : Live) (c : Change Live) (q : ℕ) → domain_of s d ≡ Some x → x.life ≡ Some live
+        → f (live_of (change_in s d c).state q) ≡ cond (d == q) (f (Some (after live c))) (f (live_of s q))
+    seen_in_change s d x live c q here lives = seen_signals c.signals (set_left s d c.left) q ∙ by c.left where
+      same : (b : Bool) → (d == q) ≡ b → f (live_of s q) ≡ cond b (f (Some live)) (f (live_of s q))
+      same true is = ap (λ q. f (live_of s q)) (sym (eq_same d q is)) ∙ ap f (live_found s d x here ∙ lives)
+      same false is = refl
+
+      by : (o : Option Live) → f (live_of (set_left s d o) q) ≡ cond (d == q) (f (Some (unwrap_or o live))) (f (live_of s q))
+      by None = same (d == q) refl
+      by (Some new) = ap (λ o. f (live_of (change_found s d (with_life new) o) q)) here ∙ seen_set s d (with_life new x) x q here
+
 -- the ring of an id after a domain was replaced
 pub ring_set : (s : State) (d : ℕ) (x y : Domain) (id : RingId) → domain_of s d ≡ Some y
     → ring_at (set_domain s d x) id ≡ cond (d == id.owner) (ring_in x.life (key_in id)) (ring_at s id)
-ring_set s d x y id here = by (d == id.owner) refl where
-  by : (b : Bool) → (d == id.owner) ≡ b → ring_at (set_domain s d x) id ≡ cond b (ring_in x.life (key_in id)) (ring_at s id)
-  by true is =
-      ap (λ q. ring_in (live_of (set_domain s d x) q) (key_in id)) (sym (eq_same d id.owner is))
-      ∙ ap (λ l. ring_in l (key_in id)) (live_here s d x y here)
-  by false is = ap (λ l. ring_in l (key_in id)) (live_other s d id.owner x (eq_apart d id.owner is))
+ring_set s d x y id here = seen_set (λ l. ring_in l (key_in id)) s d x y id.owner here
 
--- and where its rings stayed
-pub ring_change : (s : State) (d : ℕ) (change : Domain → Domain) (id : RingId) → ((x : Domain) → ring_in (change x).life (key_in id) ≡ ring_in x.life (key_in id))
-    → ring_at (change_domain s d change) id ≡ ring_at s id
-ring_change s d change id keeps = by (domain_of s d) refl where
-  by : (o : Option Domain) → domain_of s d ≡ o → ring_at (change_found s d change o) id ≡ ring_at s id
-  by None here = refl
-  by (Some x) here = ring_set s d (change x) x id here ∙ at (d == id.owner) refl where
-    at : (b : Bool) → (d == id.owner) ≡ b → cond b (ring_in (change x).life (key_in id)) (ring_at s id) ≡ ring_at s id
-    at true is = keeps x ∙ ap (λ l. ring_in l (key_in id)) (sym (live_found s d x here)) ∙ ap (λ q. ring_in (live_of s q) (key_in id)) (eq_same d id.owner is)
-    at false is = refl
-
-pub ring_signal : (s : State) (d : ℕ) (id : RingId) → ring_at (signal s d) id ≡ ring_at s id
-ring_signal s d id = ring_change s d signalled id (λ x. by x.life) where
-  by : (l : Option Live) → ring_in (option_map flagged l) (key_in id) ≡ ring_in l (key_in id)
-  by None = refl
-  by (Some live) = refl
-
-pub ring_signals : (ds : List ℕ) (s : State) (id : RingId) → ring_at (signal_all s ds) id ≡ ring_at s id
-ring_signals [] s id = refl
-ring_signals (d ∷ ds) s id = ring_signals ds (signal s d) id ∙ ring_signal s d id
-
--- the ring of an id after a change of what a domain has
+-- and after a change of what a domain has
 pub ring_in_change : (s : State) (d : ℕ) (x : Domain) (live : Live) (c : Change Live) (id : RingId) → domain_of s d ≡ Some x → x.life ≡ Some live
     → ring_at (change_in s d c).state id ≡ cond (d == id.owner) (own_ring (after live c) (key_in id)) (ring_at s id)
-ring_in_change s d x live c id here lives = ring_signals c.signals (set_left s d c.left) id ∙ by c.left where
-  same : (b : Bool) → (d == id.owner) ≡ b → ring_at s id ≡ cond b (own_ring live (key_in id)) (ring_at s id)
-  same true is = ap (λ q. ring_in (live_of s q) (key_in id)) (sym (eq_same d id.owner is)) ∙ ap (λ l. ring_in l (key_in id)) (live_found s d x here ∙ lives)
-  same false is = refl
-
-  by : (o : Option Live) → ring_at (set_left s d o) id ≡ cond (d == id.owner) (own_ring (unwrap_or o live) (key_in id)) (ring_at s id)
-  by None = same (d == id.owner) refl
-  by (Some new) = ap (λ o. ring_at (change_found s d (with_life new) o) id) here ∙ ring_set s d (with_life new x) x id here
+ring_in_change s d x live c id here lives = seen_in_change (λ l. ring_in l (key_in id)) (λ l. refl) s d x live c id.owner here lives
 
 -- a change that leaves nothing behind keeps all rings
 pub ring_quiet : (s : State) (d : ℕ) (c : Change Live) (id : RingId) → c.left ≡ None → ring_at (change_in s d c).state id ≡ ring_at s id
-ring_quiet s d c id none = ring_signals c.signals (set_left s d c.left) id ∙ ap (λ l. ring_at (set_left s d l) id) none
+ring_quiet s d c id none =
+    seen_signals (λ l. ring_in l (key_in id)) (λ l. refl) c.signals (set_left s d c.left) id.owner
+    ∙ ap (λ l. ring_at (set_left s d l) id) none
+
+-- all the rings of a domain after a change of what it has
+pub rings_in_change : (s : State) (d : ℕ) (x : Domain) (live : Live) (c : Change Live) → domain_of s d ≡ Some x → x.life ≡ Some live
+    → rings_of (change_in s d c).state d ≡ (after live c).rings
+rings_in_change s d x live c here lives =
+    seen_in_change rings_in (λ l. refl) s d x live c d here lives ∙ ap (λ b. cond b (after live c).rings (rings_of s d)) (eq_self d)
 
 -- ---- ids
 

@@ -19,7 +19,7 @@ use Rattle.argo_model.specs.Rules.Register.{is_single, own_ring, has_ring, has_n
 use Rattle.argo_model.specs.Rules.RingBytes.{PagedRing, paged, set_paged, free}
 use Rattle.argo_model.specs.Rules.Starts.{started}
 use Rattle.argo_model.specs.Rules.State.{State, Domain, Live, Ring, domain_of, life_in, is_alive, is_on}
-use Rattle.argo_model.specs.Rules.Sweep.{next_ring, sweep_found, sweep_ring}
+use Rattle.argo_model.specs.Rules.Sweep.{next_ring, sweep_found, sweep_ring, waits_on}
 use Rattle.argo_model.specs.declared.action.Outcome.TheVariants.{Done}
 use Rattle.touch_laws.specs.Touches.{Touches}
 use Rattle.live_domain.specs.declared.registration.Registration.{Registration}
@@ -27,7 +27,8 @@ use Rattle.section_world.specs.Acts.{registers}
 use Rattle.touch_laws.proofs.LeftLaws.{fit_of}
 use Rattle.touch_laws.proofs.ActLaws.{lives_in, acts_by, seen}
 use Rattle.touch_laws.proofs.NoticeLaws.{kept_others, none_left, key_set_other, key_set_same, key_put_other, key_put_same}
-use Rattle.touch_laws.proofs.RingLaws.{TouchesLive, touches_self, touches_same, touches, live_found}
+use Rattle.touch_laws.proofs.RingLaws.{TouchesLive, touches_self, touches_same, touches, live_found, rings_in_change}
+use Rattle.touch_laws.proofs.NextLaws.{next_set}
 use Rattle.state_laws.specs.Each.{EachTwo}
 use Rattle.state_laws.specs.Valid.{IsLive, IsRing, IsValid}
 use Rattle.state_laws.proofs.Domains.{fit_found}
@@ -68,14 +69,16 @@ went_out out live key r p found rises is =
 
 -- ---- a sweep
 
+-- the key of the next ring, or that of port 0 where there is none
+abbrev key_next : Option (RingKey × Ring) → RingKey
+key_next o = unwrap_or (option_map (λ (e : RingKey × Ring). e.0) o) (key_of 0 wildcard)
+
 module _ (s : State) (d serial : ℕ) (v : IsValid s) (x : Domain) (live : Live) (here : domain_of s d ≡ Some x) (lives : x.life ≡ Some live) where
   fit : IsLive (is_alive s) live
   fit = subst (λ (o : Option Live). IfSome o (IsLive (is_alive s))) lives (fit_found (is_alive s) s d x here v.lives)
 
   key_is : (e : RingKey × Ring) → next_ring serial live.rings ≡ Some e → next_key s d serial ≡ e.0
-  key_is e is =
-      ap (λ l. unwrap_or (option_map (λ (e : RingKey × Ring). e.0) (next_ring serial (rings_in l))) (key_of 0 wildcard)) (live_found s d x here ∙ lives)
-      ∙ ap (λ o. unwrap_or (option_map (λ (e : RingKey × Ring). e.0) o) (key_of 0 wildcard)) is
+  key_is e is = ap (λ l. key_next (next_ring serial (rings_in l))) (live_found s d x here ∙ lives) ∙ ap key_next is
 
   next : (o : Option (RingKey × Ring)) → next_ring serial live.rings ≡ o → Touches s (change_in s d (sweep_found live o)).state (id_in d (next_key s d serial)) (sweep_found live o).signals
   next None is = touches_same s (id_in d (next_key s d serial))
@@ -92,6 +95,20 @@ module _ (s : State) (d serial : ℕ) (v : IsValid s) (x : Domain) (live : Live)
   on true = next (next_ring serial live.rings) refl
   on false = touches_same s (id_in d (next_key s d serial))
 
+  next_stays : (o : Option (RingKey × Ring)) → next_ring serial live.rings ≡ o → next_key (change_in s d (sweep_found live o)).state d serial ≡ next_key s d serial
+  next_stays None is = refl
+  next_stays (Some e) is =
+      let p = paged live.bytes e.1 in
+      let swept = record e.1 { notices = filter (waits_on (free p)) e.1.notices } in
+      let found = lookup_in live.rings e fit.apart (next_in serial live.rings e is) in
+      ap (λ rings. key_next (next_ring serial rings)) (rings_in_change s d x live (sweep_found live (Some e)) here lives)
+      ∙ ap (λ k. unwrap_or k (key_of 0 wildcard)) (next_set serial (is_at (key_cmp e.0)) live.rings swept e.1 found refl)
+      ∙ sym (ap (λ l. key_next (next_ring serial (rings_in l))) (live_found s d x here ∙ lives))
+
+  next_if_on : (b : Bool) → next_key (change_in s d (refuse_if (not b) NoDev (sweep_found live (next_ring serial live.rings)))).state d serial ≡ next_key s d serial
+  next_if_on true = next_stays (next_ring serial live.rings) refl
+  next_if_on false = refl
+
 pub sweep_touches : (s : State) (d g serial : ℕ) → IsValid s → Touches s (act (Vcpu d g) (Sweep serial) s).state (id_in d (next_key s d serial)) (swept s d g serial)
 sweep_touches s d g serial v = there (domain_of s d) refl where
   life : (x : Domain) → domain_of s d ≡ Some x → (l : Option Live) → life_in g x ≡ l
@@ -102,6 +119,11 @@ sweep_touches s d g serial v = there (domain_of s d) refl where
   there : (o : Option Domain) → domain_of s d ≡ o → Touches s (act_if_there s d g o (Sweep serial)).state (id_in d (next_key s d serial)) (swept_of g serial o)
   there None here = touches_same s (id_in d (next_key s d serial))
   there (Some x) here = life x here (life_in g x) refl
+
+-- and the ring that is next after the serial has the key that it had
+pub sweep_next : (s : State) (d g serial : ℕ) → IsValid s → next_key (act (Vcpu d g) (Sweep serial) s).state d serial ≡ next_key s d serial
+sweep_next s d g serial v =
+    acts_by (λ t. next_key t d serial ≡ next_key s d serial) s d g (Sweep serial) refl (λ x live here lives. next_if_on s d serial v x live here lives x.on)
 
 -- and every ring stands where it stood
 pub sweep_stands : (s : State) (d g serial : ℕ) (y : RingId) → stands (act (Vcpu d g) (Sweep serial) s).state y ≡ stands s y
