@@ -7,7 +7,7 @@ use Rattle.argo_model.specs.declared.action.Outcome.{Outcome}
 use Rattle.argo_model.specs.Programs.Asks.{Do}
 use Rattle.argo_model.specs.Rules.Possible.{Facts}
 use Rattle.argo_model.specs.Runs.Run.{Progress}
-use Rattle.vcpu_machine.specs.declared.phase.Phase.{Phase}
+use Rattle.line_phase.specs.declared.phase.Phase.{Phase}
 use Rattle.vcpu_machine.specs.Vcpu.{VcpuAt, StandsAt, StandsFor, ahead, ahead_of, lines_left}
 use Rattle.shared_world.specs.Possible.{may_end}
 use Rattle.thread_run.specs.Ends.{LinesMayEnd}

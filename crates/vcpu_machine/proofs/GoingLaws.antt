@@ -7,12 +7,13 @@ use Rattle.argo_model.specs.declared.reply.Reply.{Reply}
 use Rattle.argo_model.specs.declared.scripts.Actor.{Actor}
 use Rattle.argo_model.specs.Rules.Access.{counted_at}
 use Rattle.argo_model.specs.Rules.State.{State}
-use Rattle.vcpu_machine.specs.declared.phase.Followed.{Followed}
-use Rattle.vcpu_machine.specs.declared.phase.Followed.TheVariants.{To, Over}
-use Rattle.vcpu_machine.specs.declared.phase.Phase.{Phase}
-use Rattle.vcpu_machine.specs.Followed.{Follows}
-use Rattle.vcpu_machine.specs.Going.{Goes, Moves, Performs, Settles}
-use Rattle.vcpu_machine.specs.Phase.{rest_of, IsAtPhase, phase_left}
+use Rattle.line_phase.specs.declared.phase.Followed.{Followed}
+use Rattle.line_phase.specs.declared.phase.Followed.TheVariants.{To, Over}
+use Rattle.line_phase.specs.declared.phase.Phase.{Phase}
+use Rattle.line_phase.specs.Followed.{Follows}
+use Rattle.line_phase.specs.Acting.{Performs}
+use Rattle.vcpu_machine.specs.Going.{Goes, Moves, Settles}
+use Rattle.line_phase.specs.Phase.{rest_of, IsAtPhase, phase_left}
 use Rattle.vcpu_machine.specs.Vcpu.{VcpuAt, lines_left, GoesOn, Fed, TakesTurn, IsVcpu, Begins}
 use Rattle.vcpu_machine.proofs.TurnLaws.{takes_turn}
 use Rattle.vcpu_machine.proofs.VcpuLaws.{rest_here, goes_on_fed, over_fed}

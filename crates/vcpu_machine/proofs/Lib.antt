@@ -1,16 +1,7 @@
-pub mod FitLaws
 pub mod GoingLaws
-pub mod LeadLaws
 pub mod LineLaws
-pub mod ListLaws
 pub mod LookLaws
-pub mod MovedLaws
-pub mod NotifyLaws
-pub mod RangeLaws
 pub mod ReceivingLaws
-pub mod RegisterLaws
 pub mod SeenLaws
-pub mod SendLaws
-pub mod TestLaws
 pub mod TurnLaws
 pub mod VcpuLaws

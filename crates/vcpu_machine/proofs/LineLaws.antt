@@ -1,5 +1,5 @@
 -- Laws of the lines of sections.
-use Rattle.std.proofs.Common.{◌≡◌, ℕ, zero, suc, Bool, List, [], ◌∷◌, IsTrue, Some, slice_get, subst, ◌≤◌, nat_le, length, sum_by, arith}
+use Rattle.std.proofs.Common.{◌≡◌, ℕ, zero, suc, Bool, true, false, ◌&&◌, List, [], ◌∷◌, IsTrue, refl, Some, slice_get, subst, ◌≤◌, nat_le, length, sum_by, arith}
 use Rattle.std.proofs.lemmas.Bool.Decides.{nat_tests}
 use Rattle.std.proofs.lemmas.Bool.{false≢true}
 use Rattle.std.specs.List.{list_all}
@@ -8,8 +8,13 @@ use Rattle.argo_model.specs.declared.line.Line.TheVariants.{Store, Load}
 use Rattle.argo_model.specs.declared.scripts.Actor.{Actor}
 use Rattle.argo_model.specs.declared.scripts.Actor.TheVariants.{Vcpu, Control}
 use Rattle.argo_model.specs.Runs.Script.{is_short, is_vcpu_line, is_control_line, is_lawful_for, is_generation, is_lawful, turns_of, Script}
-use Rattle.vcpu_machine.specs.Phase.{is_line_for}
-use Rattle.vcpu_machine.proofs.TestLaws.{both}
+use Rattle.vcpu_machine.specs.Line.{is_line_for}
+
+-- both of two tests hold
+both : (x y : Bool) → IsTrue (x && y) → IsTrue x × IsTrue y
+both true true h = (refl, refl)
+both true false h = absurd (false≢true h)
+both false y h = absurd (false≢true h)
 
 -- what holds of each value of a list holds of the one at a place
 pub list_all-at : {A : Type 0} (p : A → Bool) (xs : List A) (i : ℕ) (x : A) → slice_get xs i ≡ Some x → IsTrue (list_all p xs) → IsTrue (p x)

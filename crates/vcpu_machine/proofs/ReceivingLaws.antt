@@ -4,10 +4,10 @@ use Rattle.argo_model.specs.declared.action.Outcome.{Outcome}
 use Rattle.argo_model.specs.Programs.Recv.{say_found}
 use Rattle.argo_model.specs.declared.line.Line.{Line}
 use Rattle.guest_lib.specs.Receiving.{Receiving, ahead, left_of, IsUnderWay}
-use Rattle.vcpu_machine.specs.declared.phase.Phase.TheVariants.{Receiving as Library}
+use Rattle.line_phase.specs.declared.phase.Phase.TheVariants.{Receiving as Library}
 use Rattle.argo_model.specs.declared.reply.Reply.{Reply}
 use Rattle.vcpu_machine.specs.Going.{ReceiveMoves, ReceivesAlike}
-use Rattle.vcpu_machine.specs.Phase.{GoesOnAlike}
+use Rattle.vcpu_machine.specs.Line.{GoesOnAlike}
 
 module _ (line : Line) (old new : Receiving) (h : IsUnderWay old) where
   -- that memory for the next outcome is there changes nothing of what is to come

@@ -11,7 +11,7 @@ use Rattle.argo_model.specs.Programs.Asks.{Next, Do}
 use Rattle.argo_model.specs.Rules.Access.{ActsIn, counted_of, counted_at, fetch_of, outcome_unseen}
 use Rattle.argo_model.specs.Rules.State.{State}
 use Rattle.argo_model.specs.Runs.Final.{totals_after}
-use Rattle.vcpu_machine.specs.Going.{Performs}
+use Rattle.line_phase.specs.Acting.{Performs}
 
 counted_alike : (ts : List Totals) (v : ℕ) (o : Outcome) → ((t : Totals) → totals_after t Done ≡ totals_after t o) → (x : Option Totals)
     → counted_of ts v Done x ≡ counted_of ts v o x

@@ -12,7 +12,7 @@ use Rattle.argo_model.specs.Rules.Act.{Effect, act}
 use Rattle.argo_model.specs.Rules.State.{State}
 use Rattle.argo_model.specs.Runs.Run.{Progress, Turn, turn, turn_at, turn_by, turn_to}
 use Rattle.vcpu_machine.specs.Vcpu.{VcpuAt, ahead_of, ahead, reply_in, StandsFor, StandsAt, progress_after, GoesOn, Fed, TakesTurn}
-use Rattle.vcpu_machine.proofs.ListLaws.{some_here}
+use Rattle.line_phase.proofs.ListLaws.{some_here}
 
 -- what a section's turn comes to, by what follows the outcome
 turned : (s : State) (p : Progress) (line : Line) (rest : List Line) (a : Action) (o : Outcome) (after : State) (n : Next)

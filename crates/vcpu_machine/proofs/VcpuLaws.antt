@@ -15,15 +15,16 @@ use Rattle.argo_model.specs.Programs.Recv.{say_found}
 use Rattle.argo_model.specs.Rules.Access.{is_fit_of}
 use Rattle.argo_model.specs.Rules.Fit.{is_fit, is_fit_for, needs_no_caller}
 use Rattle.argo_model.specs.Runs.Script.{Section, turns_of}
-use Rattle.vcpu_machine.specs.declared.phase.Phase.{Phase}
-use Rattle.vcpu_machine.specs.declared.phase.Phase.TheVariants.{Reading, Writing, Asking, Looking, Receiving, Ended}
-use Rattle.vcpu_machine.specs.Going.{MayGo}
-use Rattle.vcpu_machine.specs.Phase.{rest_of, IsAtPhase, GoesOnAlike, HasRoom, phase_left, is_line_for}
+use Rattle.line_phase.specs.declared.phase.Phase.{Phase}
+use Rattle.line_phase.specs.declared.phase.Phase.TheVariants.{Reading, Writing, Asking, Looking, Receiving, Ended}
+use Rattle.line_phase.specs.Acting.{MayGo}
+use Rattle.line_phase.specs.Phase.{rest_of, IsAtPhase, phase_left}
+use Rattle.vcpu_machine.specs.Line.{GoesOnAlike, HasRoom, is_line_for}
 use Rattle.vcpu_machine.specs.Steps.{most_steps}
 use Rattle.vcpu_machine.specs.Vcpu.{VcpuAt, lines_left, ahead_of, ahead, left_of, reply_in, StandsFor, Begun, GoesOn, Fed, IsAtLine, NeedsNoCaller, IsOwn, IsOwnAt, HasRoomIf, IsVcpu, Begins}
-use Rattle.vcpu_machine.proofs.FitLaws.{and_true}
-use Rattle.vcpu_machine.proofs.ListLaws.{drop-slice_get, some_here, none_left}
-use Rattle.vcpu_machine.proofs.RangeLaws.{collect-does, put_all-does, some_piece}
+use Rattle.line_phase.proofs.FitLaws.{and_true}
+use Rattle.line_phase.proofs.ListLaws.{drop-slice_get, some_here, none_left}
+use Rattle.line_phase.proofs.RangeLaws.{collect-does, put_all-does, some_piece}
 
 -- a line at a phase has an action to come
 pub at_phase_does : (line : Line) (phase : Phase) → IsAtPhase line phase → (a : Action) × (rest_of line phase [] ≡ Do a)

@@ -1,16 +1,5 @@
-pub mod Calls
-pub mod Cursor
-pub mod Entries
-pub mod Followed
 pub mod Going
+pub mod Line
 pub mod Looking
-pub mod Notifying
-pub mod Phase
-pub mod Question
-pub mod Ranges
-pub mod Reader
-pub mod Registering
-pub mod Sending
 pub mod Steps
-pub mod Text
 pub mod Vcpu

@@ -4,7 +4,7 @@ use Rattle.argo_model.specs.declared.action.Outcome.{Outcome}
 use Rattle.argo_model.specs.declared.action.Outcome.TheVariants.{Flag}
 use Rattle.argo_model.specs.declared.line.Line.{Line}
 use Rattle.argo_model.specs.declared.reply.Reply.{Reply}
-use Rattle.vcpu_machine.specs.declared.phase.Phase.TheVariants.{Looking}
+use Rattle.line_phase.specs.declared.phase.Phase.TheVariants.{Looking}
 use Rattle.vcpu_machine.specs.Going.{Moves}
 
 -- the flag was found set

@@ -15,8 +15,9 @@ use Rattle.argo_model.specs.Rules.Shorts.{short_of}
 use Rattle.argo_model.specs.Rules.State.{State}
 use Rattle.argo_model.specs.Runs.Run.{Progress, Turn, turn, at_first_line}
 use Rattle.argo_model.specs.Runs.Script.{Section}
-use Rattle.vcpu_machine.specs.declared.phase.Phase.{Phase}
-use Rattle.vcpu_machine.specs.Phase.{rest_of, IsAtPhase, HasRoom, phase_left}
+use Rattle.line_phase.specs.declared.phase.Phase.{Phase}
+use Rattle.line_phase.specs.Phase.{rest_of, IsAtPhase, phase_left}
+use Rattle.vcpu_machine.specs.Line.{HasRoom}
 use Rattle.vcpu_machine.specs.Steps.{most_steps}
 
 -- a virtual CPU: its whole section, how many of the lines are done, how far the next of them is, and whether its next action was

@@ -6,7 +6,8 @@ ghost use Rattle.argo_model.specs.Programs.Recv.{say_found};
 ghost use Rattle.argo_model.specs.declared.action.Outcome.TheVariants.{Bytes as BytesCame};
 ghost use Rattle.argo_model.specs.Rules.Access.{has_steps_left, outcome_unseen};
 ghost use Rattle.guest_lib.specs.Receiving.{ahead, IsUnderWay, CanFeed, IsShort, ended};
-ghost use Rattle.vcpu_machine.specs.Going.{MayGo, ReceiveMoves, Receives, ReceivesAlike};
+ghost use Rattle.line_phase.specs.Acting.{MayGo};
+ghost use Rattle.vcpu_machine.specs.Going.{ReceiveMoves, Receives, ReceivesAlike};
 
 use argo_base::{Bytes, NoMemory, Piece};
 use argo_model::{Access, Action, Outcome, Reply, Unseen};

@@ -5,14 +5,15 @@ ghost use Rattle.argo_model.specs.Rules.Access.{has_steps_left, counted_at};
 ghost use Rattle.argo_model.specs.Rules.Fit.{is_fit_for};
 ghost use Rattle.argo_model.specs.Programs.Asks.{Do, CanFollow};
 ghost use Rattle.argo_model.specs.Runs.Script.{turns_of};
-ghost use Rattle.vcpu_machine.specs.Phase.{takes_none};
+ghost use Rattle.line_phase.specs.Phase.{takes_none};
 ghost use Rattle.vcpu_machine.specs.Vcpu.{ahead, left_of, Begins, Begun, GoesOn, Fed, TakesTurn, TakesStep, CountsIn};
 
 use crate::copies::copy_of_part;
-use crate::phase::Phase;
+use crate::line;
 use crate::short::short_of;
 use argo_base::NoMemory;
 use argo_model::{Access, Action, Outcome, Part, Reply, Short};
+use line_phase::Phase;
 use std::alloc::Global;
 use std::marker::Model;
 
@@ -90,7 +91,7 @@ impl Vcpu {
     {
         let part = &self.part;
         let line = part.lines.get(self.done as usize);
-        let action = self.phase.next(self.alloc, line)?;
+        let action = line::next(&mut self.phase, self.alloc, line)?;
         self.ready = true;
         Ok(action)
     }
@@ -113,7 +114,7 @@ impl Vcpu {
         let part = &self.part;
         let line = part.lines.get(self.done as usize);
         self.ready = false;
-        let Some(reply) = self.phase.feed(self.alloc, line, o) else {
+        let Some(reply) = line::feed(&mut self.phase, self.alloc, line, o) else {
             return None;
         };
         self.done += 1;
@@ -171,7 +172,7 @@ impl Vcpu {
     {
         let part = &self.part;
         let line = part.lines.get(self.done as usize);
-        let reply = self.phase.go(self.alloc, line, v, a)?;
+        let reply = line::go(&mut self.phase, self.alloc, line, v, a)?;
         self.ready = false;
         let Some(reply) = reply else {
             return Ok(None);
@@ -214,7 +215,7 @@ fn phase_at(alloc: Global, part: &Part, done: u32) -> Phase
 {
     let place = done as usize;
     if place < part.lines.len() {
-        Phase::start(alloc, part.actor, part.lines.get(place))
+        line::start(alloc, part.actor, part.lines.get(place))
     } else {
         Phase::Ended
     }

@@ -1,7 +1,7 @@
 use Rattle.std.proofs.Common.{ap, ◌∙◌, sym, subst, slice_get, IsTrue}
 use Rattle.argo_model.specs.Programs.Program.{program}
 use Rattle.argo_model.specs.Runs.Script.{Section}
-use Rattle.vcpu_machine.specs.Phase.{is_line_for}
+use Rattle.vcpu_machine.specs.Line.{is_line_for}
 use Rattle.vcpu_machine.proofs.LineLaws.{lawful_line}
 use Rattle.vcpu_machine.proofs.VcpuLaws.{begins_by}
 use Rattle.vcpu_machine.proofs.vcpu.phase_at.Goals as goal

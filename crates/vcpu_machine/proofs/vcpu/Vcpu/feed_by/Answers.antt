@@ -44,7 +44,7 @@ invariant_of-self c =
     let line = c.get-line.result.now in
     let rest = drop (v.done + 1) v.part.lines in
     let lines = line_here v c.part.inside.lines line (ap (λ x. x.lines) (sym c.part.view_is)) c.get-line.ensures in
-    goes_on_is v line rest c.self.invariant lines c.feed.new.self c.in_default.ensures.at_phase c.in_default.ensures.nearer
+    goes_on_is v line rest c.self.invariant lines c.feed.new.phase c.in_default.ensures.at_phase c.in_default.ensures.nearer
 
 pub returns-in_default : goal.returns-in_default
 returns-in_default c =
@@ -53,7 +53,7 @@ returns-in_default c =
     let rest = drop (v.done + 1) v.part.lines in
     let lines = line_here v c.part.inside.lines line (ap (λ x. x.lines) (sym c.part.view_is)) c.get-line.ensures in
     rw (← c.self.view_is)
-    (record { fed = goes_on_fed v line rest c.self.invariant lines c.args.o.now c.feed.new.self c.in_default.ensures.feeds c.in_default.ensures.at_phase c.in_default.ensures.nearer })
+    (record { fed = goes_on_fed v line rest c.self.invariant lines c.args.o.now c.feed.new.phase c.in_default.ensures.feeds c.in_default.ensures.at_phase c.in_default.ensures.nearer })
 
 pub invariant_of-self-2 : goal.invariant_of-self-2
 invariant_of-self-2 c =

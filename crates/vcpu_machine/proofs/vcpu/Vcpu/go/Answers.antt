@@ -28,8 +28,8 @@ invariant_of-self g c =
     let line = c.get-line.result.now in
     let rest = drop (v.done + 1) v.part.lines in
     let lines = line_here v c.part.inside.lines line (ap (λ x. x.lines) (sym c.part.view_is)) c.get-line.ensures in
-    alike_is v line rest c.self.invariant lines c.go.new.self v.ready c.in_err-reply.ensures.err
-    (room_kept v.ready (line ∷ rest) v.phase c.go.new.self c.in_err-reply.ensures.err_room (room_here v line rest c.self.invariant lines))
+    alike_is v line rest c.self.invariant lines c.go.new.phase v.ready c.in_err-reply.ensures.err
+    (room_kept v.ready (line ∷ rest) v.phase c.go.new.phase c.in_err-reply.ensures.err_room (room_here v line rest c.self.invariant lines))
 
 pub returns-in_err-reply-clause-err : goal.returns-in_err-reply-clause-err
 returns-in_err-reply-clause-err g c =
@@ -37,8 +37,8 @@ returns-in_err-reply-clause-err g c =
     let line = c.get-line.result.now in
     let rest = drop (v.done + 1) v.part.lines in
     let lines = line_here v c.part.inside.lines line (ap (λ x. x.lines) (sym c.part.view_is)) c.get-line.ensures in
-    let new : VcpuAt = record { part = v.part; done = v.done; phase = c.go.new.self; ready = v.ready } in
-    rw (← c.self.view_is) (on_err c.from_residual.result (GoesOn v new) (goes_on_alike v line rest c.self.invariant lines c.go.new.self v.ready c.in_err-reply.ensures.err))
+    let new : VcpuAt = record { part = v.part; done = v.done; phase = c.go.new.phase; ready = v.ready } in
+    rw (← c.self.view_is) (on_err c.from_residual.result (GoesOn v new) (goes_on_alike v line rest c.self.invariant lines c.go.new.phase v.ready c.in_err-reply.ensures.err))
 
 pub invariant_of-self-in_default : goal.invariant_of-self-in_default
 invariant_of-self-in_default g c =
@@ -49,8 +49,8 @@ invariant_of-self-in_default g c =
     let section : slice_get (g.A.Access.actors c.args.a.now) c.args.v ≡ Some v.part.actor = c.requires.section ∙ ap (λ (x : VcpuAt). Some x.part.actor) (sym c.self.view_is) in
     let more : v.done < length v.part.lines = subst (λ (x : VcpuAt). x.done < length x.part.lines) (sym c.self.view_is) c.requires.unfinished in
     let moves = goes_moves v line rest c.self.invariant lines (g.A.Access.actors c.args.a.now) c.args.v (g.A.Access.told c.args.a.now) (g.A.Access.told c.go.new.a)
-    (g.A.Access.totals c.args.a.now) (g.A.Access.totals c.go.new.a) more section c.in_ok-reply.reply c.go.new.self c.in_default.is c.in_ok-reply.ensures.ok in
-    goes_on_is v line rest c.self.invariant lines c.go.new.self moves.0 moves.1
+    (g.A.Access.totals c.args.a.now) (g.A.Access.totals c.go.new.a) more section c.in_ok-reply.reply c.go.new.phase c.in_default.is c.in_ok-reply.ensures.ok in
+    goes_on_is v line rest c.self.invariant lines c.go.new.phase moves.0 moves.1
 
 pub returns-in_default-clause-ok : goal.returns-in_default-clause-ok
 returns-in_default-clause-ok g c =
@@ -62,7 +62,7 @@ returns-in_default-clause-ok g c =
     let more : v.done < length v.part.lines = subst (λ (x : VcpuAt). x.done < length x.part.lines) (sym c.self.view_is) c.requires.unfinished in
     rw (← c.self.view_is)
     (goes_turn v line rest c.self.invariant lines (g.A.Access.actors c.args.a.now) c.args.v (g.A.Access.told c.args.a.now) (g.A.Access.told c.go.new.a)
-    (g.A.Access.totals c.args.a.now) (g.A.Access.totals c.go.new.a) more section c.in_ok-reply.reply c.go.new.self c.in_default.is c.in_ok-reply.ensures.ok)
+    (g.A.Access.totals c.args.a.now) (g.A.Access.totals c.go.new.a) more section c.in_ok-reply.reply c.go.new.phase c.in_default.is c.in_ok-reply.ensures.ok)
 
 pub invariant_of-self-2 : goal.invariant_of-self-2
 invariant_of-self-2 g c =
@@ -83,4 +83,4 @@ returns-clause-ok g c =
     let more : v.done < length v.part.lines = subst (λ (x : VcpuAt). x.done < length x.part.lines) (sym c.self.view_is) c.requires.unfinished in
     rw (← c.self.view_is)
     (over_turn v line rest c.self.invariant lines (g.A.Access.actors c.args.a.now) c.args.v (g.A.Access.told c.args.a.now) (g.A.Access.told c.go.new.a)
-    (g.A.Access.totals c.args.a.now) (g.A.Access.totals c.go.new.a) more section c.in_ok-reply.reply c.in-Some.reply c.go.new.self c.phase_at.result c.in-Some.is c.in_ok-reply.ensures.ok refl c.phase_at.ensures)
+    (g.A.Access.totals c.args.a.now) (g.A.Access.totals c.go.new.a) more section c.in_ok-reply.reply c.in-Some.reply c.go.new.phase c.phase_at.result c.in-Some.is c.in_ok-reply.ensures.ok refl c.phase_at.ensures)

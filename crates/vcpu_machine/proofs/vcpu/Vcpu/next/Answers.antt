@@ -1,7 +1,7 @@
 use Rattle.std.proofs.Common.{◌+◌, [], ◌∷◌, drop, true, IsTrue, sym, subst, ap, ◌∙◌}
 use Rattle.std.proofs.lemmas.Bool.{false≢true}
 use Rattle.argo_model.specs.Programs.Program.{Next}
-use Rattle.vcpu_machine.specs.Phase.{takes_none}
+use Rattle.line_phase.specs.Phase.{takes_none}
 use Rattle.vcpu_machine.specs.Vcpu.{VcpuAt}
 use Rattle.vcpu_machine.proofs.VcpuLaws.{line_here, phase_here, own_here, room_here, rest_here, room_kept, fit_for, goes_on_alike, alike_is}
 use Rattle.vcpu_machine.proofs.vcpu.Vcpu.next.Goals as goal
@@ -20,8 +20,8 @@ invariant_of-self c =
     let line = c.get-line.result.now in
     let rest = drop (v.done + 1) v.part.lines in
     let lines = line_here v c.part.inside.lines line (ap (λ x. x.lines) (sym c.part.view_is)) c.get-line.ensures in
-    alike_is v line rest c.self.invariant lines c.next.new.self v.ready c.next.ensures.alike
-    (room_kept v.ready (line ∷ rest) v.phase c.next.new.self c.next.ensures.keeps (room_here v line rest c.self.invariant lines))
+    alike_is v line rest c.self.invariant lines c.next.new.phase v.ready c.next.ensures.alike
+    (room_kept v.ready (line ∷ rest) v.phase c.next.new.phase c.next.ensures.keeps (room_here v line rest c.self.invariant lines))
 
 pub returns-in_err-action-clause-given : goal.returns-in_err-action-clause-given
 returns-in_err-action-clause-given c =
@@ -37,7 +37,7 @@ returns-in_err-action-clause-same c =
     let line = c.get-line.result.now in
     let rest = drop (v.done + 1) v.part.lines in
     let lines = line_here v c.part.inside.lines line (ap (λ x. x.lines) (sym c.part.view_is)) c.get-line.ensures in
-    rw (← c.self.view_is) (goes_on_alike v line rest c.self.invariant lines c.next.new.self v.ready c.next.ensures.alike)
+    rw (← c.self.view_is) (goes_on_alike v line rest c.self.invariant lines c.next.new.phase v.ready c.next.ensures.alike)
 
 pub invariant_of-self-2 : goal.invariant_of-self-2
 invariant_of-self-2 c =
@@ -45,7 +45,7 @@ invariant_of-self-2 c =
     let line = c.get-line.result.now in
     let rest = drop (v.done + 1) v.part.lines in
     let lines = line_here v c.part.inside.lines line (ap (λ x. x.lines) (sym c.part.view_is)) c.get-line.ensures in
-    alike_is v line rest c.self.invariant lines c.next.new.self true c.next.ensures.alike c.in_ok-action.ensures.room
+    alike_is v line rest c.self.invariant lines c.next.new.phase true c.next.ensures.alike c.in_ok-action.ensures.room
 
 pub returns-clause-action : goal.returns-clause-action
 returns-clause-action c =
@@ -70,4 +70,4 @@ returns-clause-same c =
     let line = c.get-line.result.now in
     let rest = drop (v.done + 1) v.part.lines in
     let lines = line_here v c.part.inside.lines line (ap (λ x. x.lines) (sym c.part.view_is)) c.get-line.ensures in
-    rw (← c.self.view_is) (goes_on_alike v line rest c.self.invariant lines c.next.new.self true c.next.ensures.alike)
+    rw (← c.self.view_is) (goes_on_alike v line rest c.self.invariant lines c.next.new.phase true c.next.ensures.alike)

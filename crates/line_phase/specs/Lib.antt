@@ -1,0 +1,13 @@
+pub mod Acting
+pub mod Calls
+pub mod Cursor
+pub mod Entries
+pub mod Followed
+pub mod Notifying
+pub mod Phase
+pub mod Question
+pub mod Ranges
+pub mod Reader
+pub mod Registering
+pub mod Sending
+pub mod Text

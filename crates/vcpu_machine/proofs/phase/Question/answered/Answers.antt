@@ -1,4 +1,0 @@
-use Rattle.vcpu_machine.proofs.phase.Question.answered.Goals as goal
-
-pub returns-in-Query : goal.returns-in-Query
-returns-in-Query c = rw c.in-Query.is c.answered.ensures

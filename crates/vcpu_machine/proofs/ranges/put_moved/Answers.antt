@@ -1,9 +1,0 @@
-use Rattle.vcpu_machine.specs.Ranges.{last_of}
-use Rattle.vcpu_machine.proofs.RangeLaws.{put_all-refused}
-use Rattle.vcpu_machine.proofs.ranges.put_moved.Goals as goal
-
-pub returns-in_default : goal.returns-in_default
-returns-in_default c = record {
-  moves = λ bytes failed k os long. put_all-refused c.args.rest.now c.args.outcome.now (last_of c.args.rest.now.left bytes) failed k os c.requires.some c.requires.sound c.in_default.not-Done c.in_default.not-Gone;
-  nearer = tt;
-}
