@@ -56,12 +56,7 @@ pub fn fetch_first(rest: Cursor) -> Action
 
 /// Where a line goes that fetches, once an outcome has moved it past its last piece.
 #[inline(always)]
-pub fn read_on(
-    alloc: Global,
-    got: &mut Vec<u8>,
-    reader: &mut Reader,
-    moved: Moved,
-) -> Followed
+pub fn read_on(alloc: Global, got: &mut Vec<u8>, reader: &mut Reader, moved: Moved) -> Followed
     requires over { IsOver moved }
     requires ready { IsReader reader.old }
     requires size { IsWhole moved (length got.old.items) reader.old }

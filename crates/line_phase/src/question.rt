@@ -76,12 +76,7 @@ impl Question {
     }
 
     /// Asks in a world: where the line then goes.
-    pub fn go<A: Access>(
-        &mut self,
-        alloc: Global,
-        v: u32,
-        a: &mut A,
-    ) -> Result<Followed, NoMemory>
+    pub fn go<A: Access>(&mut self, alloc: Global, v: u32, a: &mut A) -> Result<Followed, NoMemory>
         requires question { IsQuestion self.old }
         requires may { MayGo (A.actors a.old) v (Do (action_of self.old)) }
         requires few { IsTrue (has_steps_left (A.totals a.old) v) }

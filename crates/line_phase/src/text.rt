@@ -25,12 +25,7 @@ impl Text {
     ghost use Rattle.line_phase.specs.Acting.{MayGo, Performs};
 
     /// The put of the first piece of what is left of a range.
-    pub fn put_first(
-        &self,
-        alloc: Global,
-        line: &Line,
-        rest: Cursor,
-    ) -> Result<Action, NoMemory>
+    pub fn put_first(&self, alloc: Global, line: &Line, rest: Cursor) -> Result<Action, NoMemory>
         requires { IsWriting line.now rest self.now }
         ensures is { IfOk result (λ a. rest_of line.now (Phase.Writing rest self.now) [] ≡ Do a) }
         ensures fit { IfOk result (λ a. IsTrue (is_fit a)) }

@@ -145,7 +145,12 @@ fn settle(phase: &mut Phase, followed: Followed) -> Option<Reply>
 }
 
 /// Takes the outcome of the next action, and answers the reply where the line then has it.
-pub(crate) fn feed(phase: &mut Phase, alloc: Global, line: &Line, outcome: &Outcome) -> Option<Reply>
+pub(crate) fn feed(
+    phase: &mut Phase,
+    alloc: Global,
+    line: &Line,
+    outcome: &Outcome,
+) -> Option<Reply>
     requires at_phase { IsAtPhase line.now phase.old }
     requires room { HasRoom phase.old }
     requires can { CanFollow (rest_of line.now phase.old []) outcome.now }
