@@ -6,6 +6,9 @@ use Rattle.argo_abi.specs.declared.message_head.MessageHead.{MessageHead}
 use Rattle.argo_model.specs.declared.action.Action.{Action}
 use Rattle.argo_model.specs.declared.action.Action.TheVariants.{Fetch, Put}
 use Rattle.argo_model.specs.declared.action.Outcome.{Outcome}
+use Rattle.argo_model.specs.Rules.Access.{fetch_of}
+use Rattle.guest_lib.specs.declared.ask.Ask.{Ask}
+use Rattle.guest_lib.specs.declared.ask.Ask.TheVariants.{Fetch as AskFetch, Put as AskPut}
 use Rattle.guest_lib.specs.declared.received.Received.{Received}
 use Rattle.guest_lib.specs.declared.received.Received.TheVariants.{Msg, Empty, Bad, Fault, Gone}
 use Rattle.argo_model.specs.declared.reply.Reply.TheVariants.{Gone as gone}
@@ -86,6 +89,11 @@ followed end r (Some received) os = ended end received
 -- the library is at the start of its program, for a ring of len slot bytes that begins on a page
 abbrev pub Starts : ℕ → ℕ → Receiving → Type 0
 Starts page len r = (end : End) (os : List Outcome) → ahead end r os ≡ receive end page len os
+
+-- what the library asks for, as an action of the machine
+abbrev pub action_of : Ask → Action
+action_of (AskFetch piece) = fetch_of piece
+action_of (AskPut page off word) = Put page off word
 
 -- this action is next
 abbrev pub IsNext : Receiving → Action → Type 0

@@ -3,11 +3,12 @@
 ghost use Rattle.std.specs.Prelude.{◌≡◌, ◌+◌, ◌<◌, ◌≤◌, ℕ, Bool, length, true, false, IsTrue, IsFalse, IfOk, OnOk};
 ghost use Rattle.guest_lib.specs.declared.own_ring.OwnRing.{OwnRing as AnyRing};
 ghost use Rattle.argo_model.specs.Rules.Fit.{is_fit};
-ghost use Rattle.guest_lib.specs.Receiving.{step_left};
+ghost use Rattle.guest_lib.specs.Receiving.{action_of, step_left};
 
+use crate::ask::Ask;
 use crate::stage::{BodyRead, Onward, Stage};
 use argo_base::{Bytes, DomId, Message, NoMemory};
-use argo_model::{Action, Outcome};
+use argo_model::Outcome;
 use std::alloc::Global;
 use std::mem;
 
@@ -16,11 +17,12 @@ impl BodyRead {
 
     /// The fetch of the next piece, with the memory for all of the body.
     #[inline(always)]
-    pub(crate) fn next(&mut self) -> Result<Action, NoMemory>
+    pub(crate) fn ask(&mut self) -> Result<Ask, NoMemory>
         requires some { 0 < length self.old.slots }
         requires size { HasBodySize self.old }
-        ensures does { IfOk result (λ a. (ring : AnyRing) → IsAction ring (read_body self.old) a) }
-        ensures fit { IfOk result (λ a. IsTrue (is_fit a)) }
+        ensures does { IfOk result (λ a. (ring : AnyRing)
+            → IsAction ring (read_body self.old) (action_of a)) }
+        ensures fit { IfOk result (λ a. IsTrue (is_fit (action_of a))) }
         ensures alike { read_body self.new ≡ read_body self.old }
         ensures room { OnOk result (IsBody true self.new) }
         ensures keeps { (ready : Bool) → IsBody ready self.old → IsBody ready self.new }
@@ -30,11 +32,7 @@ impl BodyRead {
         let Some(piece) = self.slots.first() else {
             unreachable!();
         };
-        Ok(Action::Fetch {
-            page: piece.page,
-            off: piece.off,
-            n: piece.n,
-        })
+        Ok(Ask::Fetch(piece))
     }
 
     /// Takes the bytes of the next piece: whether others are to come.

@@ -5,8 +5,9 @@ ghost use Rattle.argo_base.specs.Slots.{is_legal};
 ghost use Rattle.argo_model.specs.declared.action.Outcome.TheVariants.{Bytes};
 ghost use Rattle.argo_model.specs.Rules.Access.{outcome_unseen};
 ghost use Rattle.argo_model.specs.Rules.Fit.{is_fit};
-ghost use Rattle.guest_lib.specs.Receiving.{Starts, IsUnderWay, IsShort, IsNext, FeedsAll, CanFeed, GoesOn, left_of};
+ghost use Rattle.guest_lib.specs.Receiving.{Starts, IsUnderWay, IsShort, IsNext, FeedsAll, CanFeed, GoesOn, action_of, left_of};
 
+use crate::ask::Ask;
 use crate::fetched::unseen_by;
 use crate::own_ring::OwnRing;
 use crate::received::Received;
@@ -56,7 +57,23 @@ impl Recv {
         }
     }
 
-    /// The next action, with all the memory that its outcome will want. After want of memory the recv is as before.
+    /// The next action, with all the memory that its outcome will want, and none for the action itself. After want of memory the recv
+    /// is as before.
+    #[inline(always)]
+    pub fn ask(&mut self) -> Result<Ask, NoMemory>
+        requires { 0 < left_of self.old }
+        ensures does { IfOk result (λ a. IsNext self.old (action_of a)) }
+        ensures fit { IfOk result (λ a. IsTrue (is_fit (action_of a))) }
+        ensures feeds { IfOk result (λ a. FeedsAll (action_of a) self.new) }
+        ensures ok { OnOk result (self.new ≡ record self.old { ready = true }) }
+        ensures err { OnErr result (self.new ≡ self.old) }
+    {
+        let ask = self.stage.ask(self.ring)?;
+        self.ready = true;
+        Ok(ask)
+    }
+
+    /// As `ask`, with the action as the machine has it.
     #[inline(always)]
     pub fn next(&mut self) -> Result<Action, NoMemory>
         requires { 0 < left_of self.old }
@@ -66,7 +83,8 @@ impl Recv {
         ensures ok { OnOk result (self.new ≡ record self.old { ready = true }) }
         ensures err { OnErr result (self.new ≡ self.old) }
     {
-        let action = self.stage.next(self.alloc, self.ring)?;
+        let ask = self.stage.ask(self.ring)?;
+        let action = ask.action(self.alloc)?;
         self.ready = true;
         Ok(action)
     }

@@ -5,14 +5,16 @@ ghost use Rattle.argo_base.specs.Layout.{u32_at};
 ghost use Rattle.argo_base.specs.Slots.{is_legal, is_place as place_fits};
 ghost use Rattle.argo_model.specs.Programs.Recv.{is_message_size};
 ghost use Rattle.argo_model.specs.Rules.Fit.{is_fit};
-ghost use Rattle.guest_lib.specs.Receiving.{ReadRx, ReadTx, ReadHead};
+ghost use Rattle.guest_lib.specs.Receiving.{action_of, ReadRx, ReadTx, ReadHead};
 ghost use Rattle.guest_lib.specs.Stage.{Follows};
 
+use crate::ask::Ask;
 use crate::own_ring::OwnRing;
 use crate::received::Received;
 use crate::slots::Slots;
 use crate::stage::{BodyRead, Onward, Stage};
 use argo_abi::{MessageHead, get_message_head};
+use argo_base::Piece;
 use argo_base::slots::{is_place, place_after, up};
 use argo_model::{Action, Outcome};
 use std::alloc::Global;
@@ -20,16 +22,16 @@ use std::alloc::Global;
 impl OwnRing {
     /// The fetch of `n` bytes of one page, `off` bytes from where the ring begins.
     #[inline(always)]
-    pub(crate) fn fetch(self, off: u32, n: u32) -> Action
+    pub(crate) fn fetch(self, off: u32, n: u32) -> Ask
         requires inside { off % 4096 + n ≤ 4096 }
-        ensures is { result ≡ Action.Fetch (self.page + off / 4096) (off % 4096) n }
-        ensures fit { IsTrue (is_fit result) }
+        ensures is { action_of result ≡ Action.Fetch (self.page + off / 4096) (off % 4096) n }
+        ensures fit { IsTrue (is_fit (action_of result)) }
     {
-        Action::Fetch {
+        Ask::Fetch(Piece {
             page: u64::from(self.page) + u64::from(off / 4096),
             off: off % 4096,
             n,
-        }
+        })
     }
 
     /// Where the library goes with the bytes of the rx word's fetch.

@@ -5,14 +5,15 @@ ghost use Rattle.argo_base.specs.Slots.{is_legal};
 ghost use Rattle.argo_model.specs.Rules.Fit.{is_fit};
 ghost use Rattle.guest_lib.specs.Ends.{EndsPut};
 ghost use Rattle.guest_lib.specs.declared.own_ring.OwnRing.{OwnRing as AnyRing};
-ghost use Rattle.guest_lib.specs.Receiving.{Step, step_left, IsShort};
+ghost use Rattle.guest_lib.specs.Receiving.{Step, action_of, step_left, IsShort};
 
+use crate::ask::Ask;
 use crate::fetched::missed_by;
 use crate::own_ring::OwnRing;
 use crate::received::Received;
 use crate::stage::{Onward, Stage};
-use argo_base::{Bytes, Message, NoMemory};
-use argo_model::{Action, Outcome};
+use argo_base::{Message, NoMemory};
+use argo_model::Outcome;
 use std::alloc::Global;
 
 impl Stage {
@@ -20,12 +21,12 @@ impl Stage {
 
     /// The next action, with the memory that its outcome will want.
     #[inline(always)]
-    pub(crate) fn next(&mut self, alloc: Global, ring: OwnRing) -> Result<Action, NoMemory>
+    pub(crate) fn ask(&mut self, ring: OwnRing) -> Result<Ask, NoMemory>
         requires some { 0 < step_left (step_of self.old) }
         requires ready { IsStage ring.len false self.old }
         requires ring { IsTrue (is_legal ring.len) }
-        ensures does { IfOk result (λ a. IsAction ring (step_of self.old) a) }
-        ensures fit { IfOk result (λ a. IsTrue (is_fit a)) }
+        ensures does { IfOk result (λ a. IsAction ring (step_of self.old) (action_of a)) }
+        ensures fit { IfOk result (λ a. IsTrue (is_fit (action_of a))) }
         ensures alike { step_of self.new ≡ step_of self.old }
         ensures room { OnOk result (IsStage ring.len true self.new) }
         ensures keeps { StaysReady ring.len self.old self.new }
@@ -34,11 +35,11 @@ impl Stage {
             Stage::Rx => Ok(ring.fetch(0, 4)),
             Stage::Tx { .. } => Ok(ring.fetch(4, 4)),
             Stage::Head { rx, .. } => Ok(ring.fetch(64 + *rx, 16)),
-            Stage::Body(body) => body.next(),
-            Stage::Word { word, .. } => Ok(Action::Put {
+            Stage::Body(body) => body.ask(),
+            Stage::Word { word, .. } => Ok(Ask::Put {
                 page: u64::from(ring.page),
                 off: 0,
-                bytes: Bytes::copy_of(alloc, &word.to_le_bytes())?,
+                word: word.to_le_bytes(),
             }),
             Stage::Done => unreachable!(),
         }

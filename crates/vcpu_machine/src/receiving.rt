@@ -9,9 +9,9 @@ ghost use Rattle.guest_lib.specs.Receiving.{ahead, IsUnderWay, CanFeed, IsShort,
 ghost use Rattle.line_phase.specs.Acting.{MayGo};
 ghost use Rattle.vcpu_machine.specs.Going.{ReceiveMoves, Receives, ReceivesAlike};
 
-use argo_base::{Bytes, NoMemory, Piece};
-use argo_model::{Access, Action, Outcome, Reply, Unseen};
-use guest_lib::{Received, Recv};
+use argo_base::{Bytes, NoMemory};
+use argo_model::{Access, Outcome, Reply, Unseen};
+use guest_lib::{Ask, Received, Recv};
 
 /// The first bytes of a body, which a reply shows.
 const SHOWN_BYTES: usize = 64;
@@ -48,17 +48,16 @@ pub(crate) fn receive<A: Access>(
     ensures err_told { OnErr result (A.told a.new ≡ A.told a.old) }
     ensures err_totals { OnErr result (A.totals a.new ≡ A.totals a.old) }
 {
-    match recv.next()? {
-        Action::Fetch { page, off, n } => {
-            let reply = heard(recv, a.seen(v, Piece { page, off, n }));
+    match recv.ask()? {
+        Ask::Fetch(piece) => {
+            let reply = heard(recv, a.seen(v, piece));
             a.count(v);
             Ok(reply)
         }
-        Action::Put { page, off, bytes } => {
-            let outcome = a.put(v, page, off, bytes.as_slice())?;
+        Ask::Put { page, off, word } => {
+            let outcome = a.put(v, page, off, &word)?;
             Ok(received(recv, &outcome))
         }
-        _ => unreachable!(),
     }
 }
 
